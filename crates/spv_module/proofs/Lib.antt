@@ -1,0 +1,5 @@
+mod Rows
+pub mod Spelling
+pub mod Tests
+pub mod Lengths
+mod Samples
