@@ -1,7 +1,9 @@
 -- The texts that are compiled so far: kernels that store a sum at their own global id.
-use Rattle.std.specs.Prelude.{◌≡◌, ◌≢◌, ℕ, ◌+◌, ◌-◌, ◌*◌, ◌<◌, ◌≤◌, ◌⊎◌, Bool, true, false, ◌&&◌, ◌||◌, ◌==◌, nat_le, IsTrue, List, [], ◌∷◌, ◌++◌, length, codes, All}
+use Rattle.std.specs.Prelude.{◌≡◌, ◌≢◌, ℕ, ◌+◌, ◌-◌, ◌*◌, ◌<◌, ◌≤◌, ◌⊎◌, Bool, true, false, ◌&&◌, ◌||◌, ◌==◌, nat_le, List, [], ◌∷◌, ◌++◌, length, codes, All}
 use Rattle.std.specs.List.{list_all}
 use Rattle.clv_place.specs.declared.stop.Offence.{Offence}
+use Rattle.clv_place.specs.declared.stop.Stop.{Stop}
+use Rattle.clv_place.specs.declared.stop.Stop.TheVariants.{Out, NoMemory}
 use Rattle.clv_engine.specs.declared.form.Kernel.{Kernel}
 use Rattle.clv_engine.specs.declared.form.Term.{Term}
 use Rattle.clv_engine.specs.declared.form.Term.TheVariants.{GlobalId, Literal}
@@ -126,3 +128,8 @@ pub record IsOut (text : List ℕ) (o : Offence) : Type 0 where
   pub line : o.place.line ≡ 1
   pub col : o.place.col ≡ 1
   pub cause : IsTooLong text o ⊎ IsNotBuilt text o
+
+-- The stop of a text: at its offence, or for want of memory, of which nothing is said.
+abbrev pub IsStopOf : List ℕ → Stop → Type 0
+IsStopOf text (Out o) = IsOut text o
+IsStopOf text NoMemory = Unit {0}

@@ -1,1 +1,15 @@
+pub mod Binding
+pub mod Command
+pub mod Emitted
+pub mod Events
 pub mod FirstForm
+pub mod Forming
+pub mod Instructions
+pub mod Interface
+pub mod Invocation
+pub mod Launch
+pub mod Lexing
+pub mod Options
+pub mod Promises
+pub mod Reflection
+pub mod SourceItem

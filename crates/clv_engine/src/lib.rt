@@ -2,5 +2,14 @@
 //! the command `compile` is.
 #![tactic(auto)]
 
+pub mod command;
+pub mod compile;
+pub mod emit;
 pub mod form;
+pub mod front;
+pub mod id;
+#[cfg(test)]
+mod tests;
 pub mod token;
+pub mod top;
+pub mod words;

@@ -1,5 +1,5 @@
 -- What files are to those who call them.
-use Rattle.std.specs.Prelude.{◌≡◌, ◌≢◌, ◌⊎◌, ℕ, ◌<◌, ◌≤◌, Bool, IsTrue, List, ◌++◌, length, Option, Some, None, Result, Ok, Err, IfOk, OnOk, OnErr, IsErrOf}
+use Rattle.std.specs.Prelude.{◌≡◌, ◌≢◌, ◌⊎◌, ℕ, ◌<◌, ◌≤◌, Bool, IsTrue, List, ◌++◌, length, Option, Some, None, Result, IfOk, OnOk, OnErr, IsErrOf}
 use Rattle.clv_io.specs.declared.files.LoadFault.{LoadFault}
 use Rattle.clv_io.specs.declared.files.LoadFault.TheVariants.{Failed, TooLarge}
 use Rattle.clv_io.specs.declared.files.StoreFault.{StoreFault}

@@ -3,7 +3,15 @@
 #![tactic(auto)]
 
 pub mod files;
+pub mod host;
+mod shelf;
 pub mod sink;
+pub mod steady;
 
 pub use files::{Files, LoadFault, StoreFault};
+pub use host::{HostFiles, HostSink};
 pub use sink::{Sink, SinkFault};
+pub use steady::{SteadyFiles, SteadySink};
+
+#[cfg(test)]
+mod tests;

@@ -1,5 +1,7 @@
 mod Rows
+mod Samples
+pub mod Fitting
+pub mod Lists
 pub mod Spelling
 pub mod Tests
 pub mod Lengths
-mod Samples

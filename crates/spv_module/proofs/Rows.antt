@@ -5,7 +5,7 @@ use Rattle.spv_module.specs.declared.forms.Form.{Form}
 use Rattle.spv_module.specs.declared.forms.Slot.{Slot}
 use Rattle.spv_module.specs.declared.forms.Last.{Last}
 use Rattle.spv_module.specs.declared.table.TheConstants.{ROWS}
-use Rattle.spv_module.specs.Grammar.{Row, table, row_of, form_of_row, form_of, is_row}
+use Rattle.spv_module.specs.Grammar.{table, row_of, form_of_row, form_of}
 
 -- a row of the code, and its form
 abbrev pub Line : Type 0

@@ -1,19 +1,58 @@
 -- The definitions at values that another assembler gives.
-use Rattle.std.proofs.Common.{◌≡◌, ℕ, ◌≤◌, Bool, true, false, List, [], ◌∷◌, refl, arith}
-use Rattle.std.specs.Prelude.{codes, ◌⊎◌}
+use Rattle.std.proofs.Common.{◌≡◌, ℕ, true, false, List, [], ◌∷◌, refl, arith}
+use Rattle.std.specs.Prelude.{codes, map}
 use Rattle.std.proofs.Common.{inl}
+use Rattle.std.specs.List.{flat_map}
 use Rattle.spv_module.specs.declared.op.TheConstants as op
 use Rattle.spv_module.specs.declared.enumerant.capability.TheConstants as capability
 use Rattle.spv_module.specs.declared.enumerant.decoration.TheConstants as decoration
 use Rattle.spv_module.specs.declared.enumerant.built_in.TheConstants as built_in
 use Rattle.spv_module.specs.declared.enumerant.storage_class.TheConstants as storage_class
+use Rattle.spv_module.specs.declared.enumerant.scope.TheConstants as scope
+use Rattle.spv_module.specs.declared.enumerant.memory_semantics.TheConstants as semantics
 use Rattle.spv_module.specs.declared.module.Module.{Module}
 use Rattle.spv_module.specs.declared.module.Inst.{Inst}
 use Rattle.spv_module.specs.declared.module.Operand.{Operand}
 use Rattle.spv_module.specs.declared.module.Operand.TheVariants.{Id, Word, Str}
-use Rattle.spv_module.specs.Grammar.{row_of, has_form}
-use Rattle.spv_module.specs.Words.{string_words, inst_words, module_words, little_endian, big_endian, AreSpelled, IsSpelled, Spells}
+use Rattle.spv_module.specs.Grammar.{Row, Decoration, row_of, has_form, table, capabilities, storage_classes, decorations, built_ins}
+use Rattle.spv_module.specs.Words.{string_words, module_words, little_endian, big_endian, AreSpelled, IsSpelled, Spells}
+use Rattle.spv_module.proofs.Lists.{all_ids-map, all_pairs-flat_map, pair_of}
 use Rattle.spv_module.proofs.Tests.{AreSpelled-tested}
+
+abbrev opcode_of : Row → ℕ
+opcode_of r = r.opcode
+
+abbrev number_of : Decoration → ℕ
+number_of d = d.number
+
+-- ---- numbers, in the order of the table and of the lists
+
+opcodes : map opcode_of table ≡
+    1 ∷ 5 ∷ 6 ∷ 7 ∷ 10 ∷ 11 ∷ 12 ∷ 14 ∷ 15 ∷ 16 ∷ 17 ∷ 19 ∷ 20 ∷ 21 ∷ 23 ∷ 28 ∷ 29 ∷ 30 ∷ 32 ∷ 33
+    ∷ 41 ∷ 42 ∷ 43 ∷ 44 ∷ 46 ∷ 50 ∷ 51 ∷ 54 ∷ 55 ∷ 56 ∷ 57 ∷ 59 ∷ 61 ∷ 62 ∷ 65 ∷ 71 ∷ 72 ∷ 77 ∷ 78 ∷ 79
+    ∷ 80 ∷ 81 ∷ 82 ∷ 113 ∷ 114 ∷ 124 ∷ 126 ∷ 128 ∷ 130 ∷ 132 ∷ 134 ∷ 135 ∷ 137 ∷ 138 ∷ 166 ∷ 167 ∷ 168 ∷ 169 ∷ 170 ∷ 171
+    ∷ 172 ∷ 173 ∷ 174 ∷ 175 ∷ 176 ∷ 177 ∷ 178 ∷ 179 ∷ 194 ∷ 195 ∷ 196 ∷ 197 ∷ 198 ∷ 199 ∷ 200 ∷ 224 ∷ 225 ∷ 229 ∷ 230 ∷ 232
+    ∷ 233 ∷ 234 ∷ 235 ∷ 236 ∷ 237 ∷ 238 ∷ 239 ∷ 240 ∷ 241 ∷ 242 ∷ 246 ∷ 247 ∷ 248 ∷ 249 ∷ 250 ∷ 251 ∷ 253 ∷ 254 ∷ 255
+    ∷ []
+opcodes = refl
+
+known_capabilities : capabilities ≡ 1 ∷ 11 ∷ 22 ∷ 39 ∷ 4433 ∷ 4435 ∷ 4448 ∷ 4450 ∷ []
+known_capabilities = refl
+
+known_storage_classes : storage_classes ≡ 1 ∷ 4 ∷ 7 ∷ 9 ∷ 12 ∷ []
+known_storage_classes = refl
+
+known_decorations : map number_of decorations ≡ 1 ∷ 2 ∷ 6 ∷ 11 ∷ 19 ∷ 20 ∷ 24 ∷ 33 ∷ 34 ∷ 35 ∷ []
+known_decorations = refl
+
+known_built_ins : built_ins ≡ 24 ∷ 25 ∷ 26 ∷ 27 ∷ 28 ∷ []
+known_built_ins = refl
+
+known_scopes : scope.DEVICE ∷ scope.WORKGROUP ∷ [] ≡ 1 ∷ 2 ∷ []
+known_scopes = refl
+
+known_semantics : semantics.NONE ∷ semantics.ACQUIRE_RELEASE ∷ semantics.UNIFORM_MEMORY ∷ semantics.WORKGROUP_MEMORY ∷ [] ≡ 0 ∷ 8 ∷ 64 ∷ 256 ∷ []
+known_semantics = refl
 
 -- ---- forms, at any ids and any words
 
@@ -116,6 +155,20 @@ module _ (a b c d : ℕ) where
   no_form : has_form 129 (Id a ∷ Id b ∷ Id c ∷ Id d ∷ []) ≡ false
   unfolding row_of
   no_form = refl
+
+-- ---- forms of operands that a list gives
+
+name_form : (a : ℕ) (s : List ℕ) → has_form op.NAME (Id a ∷ Str s ∷ []) ≡ true
+unfolding row_of
+name_form a s = refl
+
+type_struct_form : (a : ℕ) (members : List ℕ) → has_form op.TYPE_STRUCT (Id a ∷ map Id members) ≡ true
+unfolding row_of
+type_struct_form a members = all_ids-map members
+
+switch_cases_form : (a b : ℕ) (cases : List (ℕ × ℕ)) → has_form op.SWITCH (Id a ∷ Id b ∷ flat_map pair_of cases) ≡ true
+unfolding row_of
+switch_cases_form a b cases = all_pairs-flat_map cases
 
 -- ---- words
 

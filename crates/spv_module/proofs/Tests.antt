@@ -1,6 +1,6 @@
--- Tests that compute, and so settle what holds of written out instructions by `refl`. Under a test's `unfolding row_of` the ids and the
--- literal words of the instructions may be variables where the test doesn't look at them.
-use Rattle.std.proofs.Common.{◌≡◌, ℕ, ◌<◌, ◌≤◌, ◌^◌, Bool, true, false, List, refl, arith}
+-- Tests that compute, and so settle by `refl` what holds of instructions that are written out. The opcodes' row opens only by a line
+-- `unfolding row_of` under the type of the lemma that says `refl`.
+use Rattle.std.proofs.Common.{◌≡◌, ℕ, ◌<◌, ◌^◌, Bool, true, List, arith}
 use Rattle.std.specs.Prelude.{All, nat_lt, nat_le, ◌&&◌}
 use Rattle.std.specs.List.{flat_map, list_all, AllByRecursion}
 use Rattle.std.proofs.lemmas.List.Elements.{All-weaker, All-from_recursion}
@@ -91,8 +91,8 @@ AreSpelled-tested bound body e =
       texts = IsString-tested (flat_map texts_of body) four.1;
     }
 
--- Of instructions that hold variables: the tests look at no id and no literal word, and a fact is given for each of these and for each
--- string, in order, as `(a, (b, tt))`.
+-- Of instructions that hold variables as ids and literal words, which these two tests don't look at: a fact is given for each id, each
+-- literal word and each string, in order, as `(a, (b, tt))`.
 pub AreSpelled-given : (bound : ℕ) (body : List Inst) → list_all is_formed body ≡ true → list_all is_counted body ≡ true → AllByRecursion (IsIdBelow bound) (flat_map ids_of body) → AllByRecursion IsWord (flat_map numbers_of body) → AllByRecursion IsString (flat_map texts_of body) → AreSpelled bound body
 AreSpelled-given bound body forms counts ids numbers texts = record {
   forms = HasForm-tested body forms;

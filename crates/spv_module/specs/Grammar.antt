@@ -1,5 +1,5 @@
 -- The operands of each instruction that the compiler knows (SPIR-V 3, Instructions), in one table.
-use Rattle.std.specs.Prelude.{◌≡◌, ℕ, ◌==◌, ◌&&◌, ◌||◌, Bool, true, false, List, [], ◌∷◌, ◌++◌, map, take, length, Option, None, Some, find, option_map}
+use Rattle.std.specs.Prelude.{ℕ, ◌==◌, ◌&&◌, ◌||◌, Bool, true, false, List, [], ◌∷◌, ◌++◌, map, take, length, Option, None, Some, find, option_map}
 use Rattle.spv_module.specs.declared.op.TheConstants as op
 use Rattle.spv_module.specs.declared.enumerant.capability.TheConstants as capability
 use Rattle.spv_module.specs.declared.enumerant.storage_class.TheConstants as storage_class

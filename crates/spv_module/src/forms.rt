@@ -1,6 +1,7 @@
 //! What the operands of an instruction are, as a row of the table says it.
 
-/// The form of an instruction: the operands that stand first, then what may follow (SPIR-V 3.52).
+/// The form of an instruction: the operands that stand first, then what may follow (SPIR-V 3,
+/// Instructions).
 #[derive(Clone, Copy, PartialEq, Eq, Debug)]
 pub struct Form {
     /// Whether the id of a result type stands first.

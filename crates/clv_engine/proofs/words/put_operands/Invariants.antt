@@ -1,0 +1,8 @@
+use Rattle.std.proofs.Common.{◌≡◌, ◌++◌, drop}
+use Rattle.std.specs.List.{flat_map}
+use Rattle.spv_module.specs.Words.{operand_words, little_endian}
+use Rattle.clv_engine.proofs.words.put_operands.Given as goal
+
+abbrev pub invariant-loop-operand : goal.invariant-loop-operand
+invariant-loop-operand l =
+    l.bytes ++ little_endian (flat_map operand_words (drop l.operand-index l.operands)) ≡ l.fn.bytes ++ little_endian (flat_map operand_words l.operands)

@@ -1,0 +1,10 @@
+use Rattle.std.proofs.Common.{append_assoc, arith}
+use Rattle.clv_engine.proofs.Bytes.{string_bytes}
+use Rattle.clv_engine.proofs.words.put_string.Goals as goal
+
+pub returns : goal.returns
+returns c =
+    let text = c.in_ok-extend.ensures.ok in
+    let end = c.string_end.ensures in
+    let whole = string_bytes c.args.string.now (λ i. omega (arith, c.type_inv.string i)) in
+    rw whole (simp append_assoc at (rw (text, end) at c.extend-2.ensures.ok))

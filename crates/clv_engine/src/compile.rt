@@ -1,0 +1,24 @@
+//! The compiler: from a text to the bytes of its module.
+
+ghost use Rattle.std.specs.Prelude.{IfOk, IfErr};
+ghost use Rattle.clv_engine.specs.FirstForm.{IsStopOf};
+ghost use Rattle.clv_engine.specs.Command.{IsCompiled};
+
+use crate::emit::emit;
+use crate::front::first_form;
+use crate::words::write;
+use clv_place::{Stop, Text};
+use std::alloc::Global;
+
+/// The bytes of the module of a text: the little-endian words of SPIR-V 1.3. A text over 1 MiB is
+/// refused by code 105, and one that is no kernel of the form that is compiled so far by code 900,
+/// both at 1:1.
+#[tactic(auto, using(crate::proofs::Compiled::compile_steps))]
+pub fn compile(alloc: Global, text: &[u8]) -> Result<Text, Stop>
+    ensures compiled { IfOk result (IsCompiled text.now) }
+    ensures refused { IfErr result (IsStopOf text.now) }
+{
+    let kernel = first_form(alloc, text)?;
+    let module = emit(alloc, &kernel)?;
+    Ok(write(alloc, &module)?)
+}

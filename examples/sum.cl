@@ -1,0 +1,3 @@
+__kernel void k(__global uint *a) {
+    a[get_global_id(0)] = get_global_id(0) + 7;
+}
