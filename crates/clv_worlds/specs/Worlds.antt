@@ -24,9 +24,9 @@ pub record Shared (F M : Type 0) : Type 0 where
   pub reply : ℕ → F → M → ℕ
   pub leave : ℕ → F → ℕ → M → M
 
--- A program: its machine, the items' first states, its questions in the memory's words, and the chain of places of a question that is a barrier. Whether a question that the memory denies is answered by any number, or not at all.
+-- A program: each item's machine and first state, its questions in the memory's words, and the chain of places of a question that is a barrier. Whether a question that the memory denies is answered by any number, or not at all.
 pub record Program (S E F : Type 0) : Type 0 where
-  pub machine : Machine S E
+  pub machine : ℕ → Machine S E
   pub start : ℕ → S
   pub word : E → F
   pub gate : E → Option (List ℕ)
@@ -44,17 +44,17 @@ pub record World (F M : Type 0) : Type 0 where
   pub log : List (Entry F)
 
 abbrev pub state : {S E F M : Type 0} → Program S E F → World F M → ℕ → S
-state p w i = after p.machine (w.items i) (p.start i)
+state p w i = after (p.machine i) (w.items i) (p.start i)
 
 -- the item waits at a barrier of this chain
 pub record WaitsAt {S E F M : Type 0} (p : Program S E F) (w : World F M) (i : ℕ) (chain : List ℕ) : Type 0 where
   pub event : E
-  pub asks : p.machine.status (state p w i) ≡ Asks event
+  pub asks : (p.machine i).status (state p w i) ≡ Asks event
   pub gate : p.gate event ≡ Some chain
 
 -- the item asks this of the memory
 pub record AsksMemory {S E F M : Type 0} (p : Program S E F) (w : World F M) (i : ℕ) (e : E) : Type 0 where
-  pub asks : p.machine.status (state p w i) ≡ Asks e
+  pub asks : (p.machine i).status (state p w i) ≡ Asks e
   pub gate : p.gate e ≡ None
 
 -- the world after a question of an item was answered
@@ -63,7 +63,7 @@ answered l p w i e x = record { memory = l.leave i (p.word e) x w.memory; items 
 
 -- One move: an item's own step, with any number as the unspecified value that it may need; the answer to what it asks; any answer, where the memory denies and the program takes it; or the release of a group whose items all wait at one barrier.
 pub data Moves {S E F M : Type 0} (l : Shared F M) (p : Program S E F) : World F M → World F M → Type 0 where
-  own : (w : World F M) (i x : ℕ) → i < l.count → p.machine.status (state p w i) ≡ Runs
+  own : (w : World F M) (i x : ℕ) → i < l.count → (p.machine i).status (state p w i) ≡ Runs
       → Moves l p w (record { memory = w.memory; items = with_item i (w.items i ++ x ∷ []) w.items; log = w.log })
   does : (w : World F M) (i : ℕ) (e : E) → i < l.count → AsksMemory p w i e → l.denies i (p.word e) w.memory ≡ false
       → Moves l p w (answered l p w i e (l.reply i (p.word e) w.memory))
@@ -83,13 +83,13 @@ opening m = record { memory = m; items = λ i. []; log = [] }
 
 -- In the group each item waits at a barrier or has ended, one waits, and not all wait at one.
 pub record IsMismatched {S E F M : Type 0} (l : Shared F M) (p : Program S E F) (w : World F M) (g : ℕ) : Type 0 where
-  pub each : (i : ℕ) → i < l.count → l.group i ≡ g → ((chain : List ℕ) × WaitsAt p w i chain) ⊎ p.machine.status (state p w i) ≡ Ends
+  pub each : (i : ℕ) → i < l.count → l.group i ≡ g → ((chain : List ℕ) × WaitsAt p w i chain) ⊎ (p.machine i).status (state p w i) ≡ Ends
   pub one : (i : ℕ) × (i < l.count) × (l.group i ≡ g) × (chain : List ℕ) × WaitsAt p w i chain
   pub not_all : (chain : List ℕ) → ((i : ℕ) → i < l.count → l.group i ≡ g → WaitsAt p w i chain) → ⊥
 
 -- Something has gone wrong: what an item is to do next is undefined or a trap; it asks what the memory denies and the program doesn't take; or a group's items don't meet.
 pub data IsWrong {S E F M : Type 0} (l : Shared F M) (p : Program S E F) (w : World F M) : Type 0 where
-  fails : (i : ℕ) → i < l.count → p.machine.status (state p w i) ≡ Fails → IsWrong l p w
+  fails : (i : ℕ) → i < l.count → (p.machine i).status (state p w i) ≡ Fails → IsWrong l p w
   denied : (i : ℕ) (e : E) → i < l.count → AsksMemory p w i e → l.denies i (p.word e) w.memory ≡ true → p.takes_any ≡ false → IsWrong l p w
   mismatched : (g : ℕ) → IsMismatched l p w g → IsWrong l p w
 
@@ -99,7 +99,7 @@ IsDefined {S} {E} {F} {M} l p m = (w : World F M) → Leads l p (opening m) w �
 
 -- all items have ended
 abbrev pub IsComplete : {S E F M : Type 0} → Shared F M → Program S E F → World F M → Type 0
-IsComplete l p w = (i : ℕ) → i < l.count → p.machine.status (state p w i) ≡ Ends
+IsComplete l p w = (i : ℕ) → i < l.count → (p.machine i).status (state p w i) ≡ Ends
 
 -- neither complete nor wrong, and no move can be made
 pub record IsStuck {S E F M : Type 0} (l : Shared F M) (p : Program S E F) (w : World F M) : Type 0 where
