@@ -1,9 +1,9 @@
 -- From items to worlds: beside each run of the target is one of the source, in which each item stands as the target's does.
 use Rattle.std.proofs.Common.{◌≡◌, ℕ, zero, suc, ◌<◌, ◌≤◌, ◌⊎◌, inl, inr, true, false, List, [], ◌∷◌, ◌++◌, refl, sym, ap, ◌∙◌, subst, arith, append_assoc}
-use Rattle.std.proofs.lemmas.Bool.{cases_eq}
+use Rattle.std.proofs.lemmas.Bool.{cases_eq, cases_lt}
 use Rattle.std.proofs.lemmas.List.{append-nil}
 use Rattle.clv_steps.specs.Machines.{Runs, Asks, Fails, Machine, after, told_by, told, IsLive, IsLegal, in_words}
-use Rattle.clv_steps.specs.Runs.{Matches, Keeps}
+use Rattle.clv_steps.specs.Runs.{Matches, Broke, Keeps}
 use Rattle.clv_steps.proofs.Append.{after_append, told_append, legal_append, words_append}
 use Rattle.clv_worlds.specs.Worlds.{with_item, freed, Shared, Program, Did, Opened, World, state, WaitsAt, AsksMemory, answered, Moves, own, does, takes, opens, Leads, here, onward, opening, IsDefined, fails, denied}
 use Rattle.clv_worlds.specs.Simulation.{Serves}
@@ -27,8 +27,24 @@ pub record Beside {S E T F M : Type 0} (l : Shared F M) (a : Program S E F) (b :
   pub keeps : (i : ℕ) → i < l.count → Keeps (a.machine i) (b.machine i) a.word cost lead (a.start i) (b.start i) (world.items i) (v.items i)
 
 module _ {S E T F M : Type 0} (l : Shared F M) (a : Program S E F) (b : Program T F F) (cost : S → ℕ) (lead worth : ℕ) (s : Serves l a b cost lead worth) (m : M) (defined : IsDefined l a m) where
-  abbrev chosen : ℕ → List ℕ → List ℕ
-  chosen i h = (s.follows i).choose h
+  -- what is known of a choice of an item's histories
+  record Chooses (i : ℕ) (choose : List ℕ → List ℕ) : Type 0 where
+    grows : (h : List ℕ) (x : ℕ) → (more : List ℕ) × (choose (h ++ x ∷ []) ≡ choose h ++ more)
+    legal : (h : List ℕ) → IsLegal (b.machine i) h (b.start i) → IsLegal (a.machine i) (choose h) (a.start i)
+    serves : (h : List ℕ) → IsLegal (b.machine i) h (b.start i) → Broke (a.machine i) (b.machine i) a.word (a.start i) (b.start i) (choose h) h ⊎ Keeps (a.machine i) (b.machine i) a.word cost lead (a.start i) (b.start i) (choose h) h
+
+  choice : (i : ℕ) → (choose : List ℕ → List ℕ) × (i < l.count → Chooses i choose)
+  choice i = elim (cases_lt i l.count) [
+    | inl low ↦ (let f = s.follows i low in (f.choose, λ here_low. record { grows = f.grows; legal = f.legal; serves = f.serves }))
+    | inr high ↦ (λ h. [], λ low. absurd (omega (arith, low, high)))
+  ]
+
+  chosen : ℕ → List ℕ → List ℕ
+  chosen i = (choice i).0
+
+  chooses : (i : ℕ) → i < l.count → Chooses i (chosen i)
+  unfolding chosen
+  chooses i = (choice i).1
 
   -- the source's item has not made all of its steps yet, but asks nothing in the rest
   record Behind (i : ℕ) (h p : List ℕ) : Type 0 where
@@ -93,7 +109,7 @@ module _ {S E T F M : Type 0} (l : Shared F M) (a : Program S E F) (b : Program 
       let low : k < l.count = omega (arith, most) in
       let z = c.behind k low in
       let same : state a q.world k ≡ after (a.machine k) (u.items k) (a.start k) = ap (λ h. after (a.machine k) h (a.start k)) (q.rest k (omega arith)) in
-      let whole : IsLegal (a.machine k) (u.items k ++ z.rest) (a.start k) = subst (λ h. IsLegal (a.machine k) h (a.start k)) z.is ((s.follows k).legal (v.items k) (c.legal k low)) in
+      let whole : IsLegal (a.machine k) (u.items k ++ z.rest) (a.start k) = subst (λ h. IsLegal (a.machine k) h (a.start k)) z.is ((chooses k low).legal (v.items k) (c.legal k low)) in
       let legal = subst (IsLegal (a.machine k) z.rest) (sym same) (legal_behind (a.machine k) (u.items k) z.rest (a.start k) whole) in
       let r = ran z.rest q.world k low legal (ap (told (a.machine k) z.rest) same ∙ z.unasked) in
       record {
@@ -119,14 +135,14 @@ module _ {S E T F M : Type 0} (l : Shared F M) (a : Program S E F) (b : Program 
     asked : told (b.machine i) h (b.start i) ≡ in_words a.word (told (a.machine i) (chosen i h) (a.start i)) ++ rest
     why : (rest ≡ []) ⊎ ((a.machine i).status (after (a.machine i) (chosen i h) (a.start i)) ≡ Fails)
 
-  asked_at : (i : ℕ) (h : List ℕ) → IsLegal (b.machine i) h (b.start i) → Asked i h
-  asked_at i h legal = elim ((s.follows i).serves h legal) [
+  asked_at : (i : ℕ) (h : List ℕ) → i < l.count → IsLegal (b.machine i) h (b.start i) → Asked i h
+  asked_at i h low legal = elim ((chooses i low).serves h legal) [
     | inl w ↦ record { rest = w.more; asked = w.asked; why = inr w.fails }
     | inr k ↦ record { rest = []; asked = k.asked ∙ sym (append-nil _); why = inl refl }
   ]
 
   kept_at : (u v : World F M) (i : ℕ) → Leads l a (opening m) u → i < l.count → Equal u v → Keeps (a.machine i) (b.machine i) a.word cost lead (a.start i) (b.start i) (u.items i) (v.items i)
-  kept_at u v i run low e = subst (λ g. Keeps (a.machine i) (b.machine i) a.word cost lead (a.start i) (b.start i) g (v.items i)) (sym (e.items i low)) (elim ((s.follows i).serves (v.items i) (e.legal i low)) [
+  kept_at u v i run low e = subst (λ g. Keeps (a.machine i) (b.machine i) a.word cost lead (a.start i) (b.start i) g (v.items i)) (sym (e.items i low)) (elim ((chooses i low).serves (v.items i) (e.legal i low)) [
     | inl w ↦ absurd (defined u run (fails i low (ap (λ g. (a.machine i).status (after (a.machine i) g (a.start i))) (e.items i low) ∙ w.fails)))
     | inr k ↦ k
   ])
@@ -145,9 +161,9 @@ module _ {S E T F M : Type 0} (l : Shared F M) (a : Program S E F) (b : Program 
   grown : (u v : World F M) (i x : ℕ) → Leads l a (opening m) u → i < l.count → Equal u v → IsLegal (b.machine i) (v.items i ++ x ∷ []) (b.start i) → Grown u v i x
   grown u v i x run low e legal =
       let k = kept_at u v i run low e in
-      let g = (s.follows i).grows (v.items i) x in
+      let g = (chooses i low).grows (v.items i) x in
       let is : chosen i (v.items i ++ x ∷ []) ≡ u.items i ++ g.0 = g.1 ∙ ap (λ z. z ++ g.0) (sym (e.items i low)) in
-      let q = asked_at i (v.items i ++ x ∷ []) legal in
+      let q = asked_at i (v.items i ++ x ∷ []) low legal in
       let st = (b.machine i).status (state b v i) in
       let old = told (a.machine i) (u.items i) (a.start i) in
       let new = told (a.machine i) g.0 (state a u i) in
@@ -293,7 +309,7 @@ module _ {S E T F M : Type 0} (l : Shared F M) (a : Program S E F) (b : Program 
 
   at_first : Reached (opening m)
   at_first =
-      let c : Close (opening m) (opening m) = record { memory = refl; log = refl; legal = λ i low. tt; behind = λ i low. (let q = asked_at i [] tt in record { rest = chosen i []; is = refl; unasked = words_none a.word _ (none_behind [] _ q.rest q.asked) }) } in
+      let c : Close (opening m) (opening m) = record { memory = refl; log = refl; legal = λ i low. tt; behind = λ i low. (let q = asked_at i [] low tt in record { rest = chosen i []; is = refl; unasked = words_none a.word _ (none_behind [] _ q.rest q.asked) }) } in
       let f = closed (opening m) (opening m) (opening m) (here (opening m)) c in
       record { world = f.world; run = f.run; equal_to = f.equal_to }
 

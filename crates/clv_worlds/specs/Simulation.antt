@@ -6,7 +6,7 @@ use Rattle.clv_worlds.specs.Worlds.{Shared, Program, World, Leads, opening, IsWr
 
 -- What is asked item by item. The target follows the source, whose steps are worth so many of its own; a barrier of the one is a barrier of the other, and two have one chain in the one exactly where they have in the other. The target asks in the memory's words. The source isn't answered where the memory denies.
 pub record Serves {S E T F M : Type 0} (l : Shared F M) (a : Program S E F) (b : Program T F F) (cost : S → ℕ) (lead worth : ℕ) : Type 0 where
-  pub follows : (i : ℕ) → Follows (a.machine i) (b.machine i) a.word cost lead (a.start i) (b.start i)
+  pub follows : (i : ℕ) → i < l.count → Follows (a.machine i) (b.machine i) a.word cost lead (a.start i) (b.start i)
   pub costs : (s : S) → cost s ≤ worth
   pub leads : lead ≤ worth
   pub words : (f : F) → b.word f ≡ f
