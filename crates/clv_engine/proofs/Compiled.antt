@@ -10,7 +10,7 @@ use Rattle.clv_engine.specs.Command.{IsGood, IsCompiled}
 use Rattle.clv_engine.proofs.FactsSpelled.{is_spelled, small}
 use Rattle.clv_engine.proofs.FactsReflection.{reflection_agrees}
 use Rattle.clv_engine.proofs.FactsInterface.{interface_agrees}
-use Rattle.clv_engine.proofs.Simulation.{item_simulation}
+use Rattle.clv_engine.proofs.Simulation.{item_simulation, world_simulation}
 
 pub few_terms : (text : List ℕ) (k : Kernel) → IsIn text k → length k.terms ≤ 100
 few_terms text k i = i.kernel.few
@@ -25,6 +25,7 @@ good text k i = record {
   reflection = reflection_agrees k i.kernel;
   interface = interface_agrees k i.kernel;
   items = item_simulation k i.kernel;
+  worlds = world_simulation k i.kernel;
   bound = (small k i.kernel).1;
   size = (small k i.kernel).0;
 }

@@ -1,7 +1,9 @@
 -- Each invocation of a kernel's module does what its work-item does.
-use Rattle.std.proofs.Common.{◌≡◌, ℕ, ◌+◌, ◌-◌, ◌*◌, ◌/◌, ◌%◌, ◌^◌, ◌<◌, ◌≤◌, [], length, Some, cond, refl, sym, ap, ◌∙◌, subst, arith, inl, inr, All}
+use Rattle.std.proofs.Common.{◌≡◌, ℕ, ◌+◌, ◌-◌, ◌*◌, ◌/◌, ◌%◌, ◌^◌, ◌<◌, ◌≤◌, List, [], length, Some, None, cond, refl, sym, ap, ◌∙◌, subst, arith, inl, inr, All}
 use Rattle.std.proofs.lemmas.Bool.{lt-ltb}
-use Rattle.clv_steps.specs.Runs.{Simulates}
+use Rattle.clv_steps.specs.Runs.{Follows}
+use Rattle.clv_worlds.specs.Simulation.{Serves}
+use Rattle.clv_worlds.proofs.Simulated.{simulated}
 use Rattle.clv_steps.proofs.Follow.{Goes, wrong, ended, asks, follows}
 use Rattle.clv_steps.proofs.Moments.{moments}
 use Rattle.clv_engine.specs.declared.form.Kernel.{Kernel}
@@ -12,9 +14,10 @@ use Rattle.clv_engine.specs.SourceItem.{Item, item, Surroundings, source_item, f
 use Rattle.clv_engine.specs.Emitted.{body_of}
 use Rattle.clv_engine.specs.Reflection.{BufferRow}
 use Rattle.clv_engine.specs.Options.{◌>>=◌}
-use Rattle.clv_engine.specs.Binding.{bound_by, buffer_among}
-use Rattle.clv_engine.specs.Invocation.{Run, run, over, Given, size_of, or_default, place_after, invocation}
-use Rattle.clv_engine.specs.Promises.{Fits, surroundings_of, in_function, given_of, ItemServes, ItemSimulation}
+use Rattle.clv_engine.specs.Binding.{Start, BindsTo, bound_by, buffer_among}
+use Rattle.clv_engine.specs.LaunchWorlds.{shared_of, source_world, module_world, WorldSimulation}
+use Rattle.clv_engine.specs.Invocation.{Run, run, over, Given, size_of, or_default, place_after, invocation, first_run}
+use Rattle.clv_engine.specs.Promises.{Fits, surroundings_of, in_function, given_of, ItemSimulation}
 use Rattle.clv_engine.proofs.NumberTests.{less_or_not}
 use Rattle.clv_steps.proofs.Quiet.{Quietly, worth, at_credit, source_quiet, target_quiet}
 use Rattle.clv_engine.proofs.Places.{lies_found}
@@ -75,11 +78,14 @@ index_goes k s g f p c b paid = elim (less_or_not s.size (0 + 4 * s.global_id 0)
 worth_most : (i : Item) → worth 256 i ≤ 256
 worth_most i = omega arith
 
-both_serve : (k : Kernel) (s : Surroundings) (g : Given) (f p : ℕ) → Both k s g f p → Simulates (source_item s) (invocation g) (in_function f) 256 (first_state k) (run f p [] [])
-both_serve k s g f p b =
+both_follow : (k : Kernel) (s : Surroundings) (g : Given) (f p : ℕ) → Both k s g f p → Follows (source_item s) (invocation g) (in_function f) (worth 256) 256 (first_state k) (run f p [] [])
+both_follow k s g f p b =
     let begin = item_alone s g f 9 256 (first_state k) (at_index s k.terms) (run f p [] []) (to_index s k) (index_goes k s g f p (256 + 9 * 256) b (omega arith)) in
-    moments (source_item s) (invocation g) (in_function f) (worth 256) 256 256 (first_state k) (run f p [] []) worth_most (omega arith)
-    (follows (source_item s) (invocation g) (in_function f) (worth 256) 256 (Left g) (left_goes s g f) (first_state k) (run f p [] []) begin)
+    follows (source_item s) (invocation g) (in_function f) (worth 256) 256 (Left g) (left_goes s g f) (first_state k) (run f p [] []) begin
+
+-- the item's invocation follows it
+abbrev ItemFollows : Kernel → Launch → Start → ℕ → Type 0
+ItemFollows k l start n = Follows (source_item (surroundings_of l n)) (invocation (given_of (body_of k) l start n)) (in_function start.function) (worth 256) 256 (first_state k) (first_run (given_of (body_of k) l start n))
 
 -- the launch's side
 start_is : (k : Kernel) (l : Launch) (b : HasBuffer l) → IsStart (start_for k l) b.file (length b.bytes)
@@ -118,8 +124,34 @@ both_found k l n kernel f = record {
   writes = writes_found k l n f;
 }
 
+-- each item of a launch is followed by its invocation
+pub item_follows : (k : Kernel) (l : Launch) (start : Start) (n : ℕ) → IsKernel k → Fits k l → BindsTo (body_of k) l start → ItemFollows k l start n
+item_follows k l start n kernel f b = subst (λ at. ItemFollows k l at n) (start_only k l start f b) (both_follow k (surroundings_of l n) (given_of (body_of k) l (start_for k l) n) id.MAIN (place_after (body_of k) id.MAIN) (both_found k l n kernel f))
+
 pub item_simulation : (k : Kernel) → IsKernel k → ItemSimulation (body_of k) k
 item_simulation k kernel = record {
   binds = λ l f. (start_for k l, binds_found k l f);
-  serves = λ l start n f b low. subst (λ at. ItemServes (body_of k) k l at n) (start_only k l start f b) (both_serve k (surroundings_of l n) (given_of (body_of k) l (start_for k l) n) id.MAIN (place_after (body_of k) id.MAIN) (both_found k l n kernel f));
+  serves = λ l start n f b low. moments (source_item (surroundings_of l n)) (invocation (given_of (body_of k) l start n)) (in_function start.function) (worth 256) 256 256 (first_state k) (first_run (given_of (body_of k) l start n)) worth_most (omega arith) (item_follows k l start n kernel f b);
+}
+
+-- nothing is a barrier
+no_chain : {A : Type 0} (k : List ℕ) → None ≡ Some k → A
+no_chain k e = absurd (let c : None ≡ Some k = e in cc)
+
+worlds_serve : (k : Kernel) (l : Launch) (start : Start) → IsKernel k → Fits k l → BindsTo (body_of k) l start → Serves (shared_of l) (source_world k l start.function) (module_world (body_of k) l start) (worth 256) 256 256
+worlds_serve k l start kernel f b = record {
+  follows = λ n low. item_follows k l start n kernel f b;
+  costs = worth_most;
+  leads = omega arith;
+  words = λ asked. refl;
+  chain = λ chain. chain;
+  meets = λ asked chain e. no_chain chain e;
+  open_gate = λ asked e. refl;
+  tells = λ asked asked2 chain chain2 same e e2. no_chain chain e;
+  denied = refl;
+}
+
+pub world_simulation : (k : Kernel) → IsKernel k → WorldSimulation (body_of k) k
+world_simulation k kernel = record {
+  worlds = λ l start f b defined. simulated (shared_of l) (source_world k l start.function) (module_world (body_of k) l start) (worth 256) 256 256 (worlds_serve k l start kernel f b) l.buffers defined;
 }

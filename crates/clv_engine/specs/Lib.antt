@@ -8,6 +8,7 @@ pub mod Instructions
 pub mod Interface
 pub mod Invocation
 pub mod Launch
+pub mod LaunchWorlds
 pub mod Lexing
 pub mod Options
 pub mod Promises

@@ -1,8 +1,7 @@
 -- The items of one program do together what those of another do.
-use Rattle.std.specs.Prelude.{◌≡◌, ℕ, ◌+◌, ◌*◌, ◌<◌, ◌≤◌, List, length, Option, Some, None, true, false}
-use Rattle.clv_steps.specs.Machines.{Machine}
+use Rattle.std.specs.Prelude.{◌≡◌, ℕ, ◌+◌, ◌*◌, ◌<◌, ◌≤◌, List, length, Some, None, false}
 use Rattle.clv_steps.specs.Runs.{Follows}
-use Rattle.clv_worlds.specs.Worlds.{Shared, Program, World, Leads, opening, IsWrong, IsStuck, IsComplete, IsDefined, steps_of}
+use Rattle.clv_worlds.specs.Worlds.{Shared, Program, World, Leads, opening, IsWrong, IsStuck, IsComplete, steps_of}
 
 -- What is asked item by item. The target follows the source, whose steps are worth so many of its own; a barrier of the one is a barrier of the other, and two have one chain in the one exactly where they have in the other. The target asks in the memory's words. The source isn't answered where the memory denies.
 pub record Serves {S E T F M : Type 0} (l : Shared F M) (a : Program S E F) (b : Program T F F) (cost : S → ℕ) (lead worth : ℕ) : Type 0 where

@@ -1,6 +1,6 @@
 -- Work-items over shared memory, in any order, with barriers of groups.
 use Rattle.std.specs.Prelude.{◌≡◌, ℕ, zero, suc, ◌+◌, ◌<◌, ◌⊎◌, Bool, true, false, List, [], ◌∷◌, ◌++◌, length, Option, Some, None}
-use Rattle.clv_steps.specs.Machines.{Status, Runs, Asks, Ends, Fails, Machine, after}
+use Rattle.clv_steps.specs.Machines.{Runs, Asks, Ends, Fails, Machine, after}
 
 -- the first where the numbers are equal, and else the second
 abbrev pub pick : {A : Type 0} → ℕ → ℕ → A → A → A
