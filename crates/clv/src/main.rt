@@ -2,7 +2,7 @@
 //! handed to the top call, and its status is the program's.
 #![tactic(auto)]
 
-use clv_engine::top::clv_top;
+use clv_engine::clv_top;
 use clv_io::{HostFiles, HostSink};
 use std::alloc::{AllocError, Global};
 use std::process::ExitCode;

@@ -12,6 +12,7 @@ use Rattle.clv_engine.specs.Reflection.{rows_of, reflection_of}
 use Rattle.clv_engine.specs.Binding.{Start}
 use Rattle.clv_engine.specs.Invocation.{invocation, first_run}
 use Rattle.clv_engine.specs.Command.{words_text}
+use Rattle.clv_engine.specs.LaunchWorlds.{after_event, group_of}
 use Rattle.clv_engine.specs.Promises.{surroundings_of, given_of}
 
 -- get_global_id(0)+7
@@ -71,3 +72,11 @@ target_fails = refl
 
 newline : words_text ≡ 119 ∷ 111 ∷ 114 ∷ 100 ∷ 115 ∷ 10 ∷ []
 newline = refl
+
+-- the write puts four bytes into the buffer, the lowest first
+written : after_event (Write (record { buffer = 0; offset = 8; bits = 32 }) 9) launch.buffers ≡ (0 ∷ 0 ∷ 0 ∷ 0 ∷ 0 ∷ 0 ∷ 0 ∷ 0 ∷ 9 ∷ 0 ∷ 0 ∷ 0 ∷ []) ∷ []
+written = refl
+
+-- items 0 and 1 are the first group, and 2 and 3 the second
+groups : group_of launch 0 ∷ group_of launch 1 ∷ group_of launch 2 ∷ group_of launch 3 ∷ [] ≡ 0 ∷ 0 ∷ 1 ∷ 1 ∷ []
+groups = refl

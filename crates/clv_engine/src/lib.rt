@@ -2,14 +2,17 @@
 //! the command `compile` is.
 #![tactic(auto)]
 
-pub mod command;
-pub mod compile;
-pub mod emit;
-pub mod form;
-pub mod front;
-pub mod id;
+mod command;
+mod compiler;
+mod emit;
+mod form;
+mod front;
+mod id;
 #[cfg(test)]
 mod tests;
-pub mod token;
-pub mod top;
-pub mod words;
+mod token;
+mod top;
+mod words;
+
+pub use compiler::compile;
+pub use top::clv_top;

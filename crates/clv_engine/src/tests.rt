@@ -1,6 +1,6 @@
 //! The top call over files and a sink in memory.
 
-use crate::top::clv_top;
+use crate::clv_top;
 use clv_io::{SteadyFiles, SteadySink};
 use clv_place::NoMemory;
 use std::alloc::Global;

@@ -4,7 +4,7 @@ ghost use Rattle.std.specs.Prelude.{◌≡◌, map, string_bytes, IfOk, OnErr};
 ghost use Rattle.clv_engine.specs.Command.{module_text, source_text, file_text, StoreEnds, FilesComeTo, IsUnchanged, Prints, Answers, IsDecided};
 
 use crate::command::files_of_compile;
-use crate::compile::compile;
+use crate::compiler::compile;
 use clv_io::{Files, LoadFault, Sink};
 use clv_place::{NoMemory, Offence, Place, Stop, Text};
 use std::alloc::Global;
