@@ -11,3 +11,6 @@ pub use list::List;
 pub use place::{Place, place_at};
 pub use stop::{NoMemory, Offence, Stop};
 pub use text::Text;
+
+#[cfg(test)]
+mod tests;
