@@ -1,4 +1,3 @@
-pub mod Bytes
 pub mod CommandWords
 pub mod Compiled
 pub mod Decided

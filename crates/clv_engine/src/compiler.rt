@@ -6,8 +6,8 @@ ghost use Rattle.clv_engine.specs.Command.{IsCompiled};
 
 use crate::emit::emit;
 use crate::front::first_form;
-use crate::words::write;
 use clv_place::{Stop, Text};
+use spv_binary::write;
 use std::alloc::Global;
 
 /// The bytes of the module of a text: the little-endian words of SPIR-V 1.3. A text over 1 MiB is

@@ -12,7 +12,6 @@ mod id;
 mod tests;
 mod token;
 mod top;
-mod words;
 
 pub use compiler::compile;
 pub use top::clv_top;

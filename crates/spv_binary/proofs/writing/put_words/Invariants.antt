@@ -1,6 +1,6 @@
 use Rattle.std.proofs.Common.{◌≡◌, ◌++◌, take}
 use Rattle.spv_module.specs.Words.{little_endian}
-use Rattle.clv_engine.proofs.words.put_words.Given as goal
+use Rattle.spv_binary.proofs.writing.put_words.Given as goal
 
 abbrev pub invariant-loop-word : goal.invariant-loop-word
 invariant-loop-word l =

@@ -1,7 +1,7 @@
 use Rattle.std.proofs.Common.{◌≡◌, ◌++◌, drop}
 use Rattle.std.specs.List.{flat_map}
 use Rattle.spv_module.specs.Words.{operand_words, little_endian}
-use Rattle.clv_engine.proofs.words.put_operands.Given as goal
+use Rattle.spv_binary.proofs.writing.put_operands.Given as goal
 
 abbrev pub invariant-loop-operand : goal.invariant-loop-operand
 invariant-loop-operand l =

@@ -1,6 +1,6 @@
 use Rattle.std.proofs.Common.{append_assoc, arith}
-use Rattle.clv_engine.proofs.Bytes.{string_bytes}
-use Rattle.clv_engine.proofs.words.put_string.Goals as goal
+use Rattle.spv_binary.proofs.Bytes.{string_bytes}
+use Rattle.spv_binary.proofs.writing.put_string.Goals as goal
 
 pub returns : goal.returns
 returns c =

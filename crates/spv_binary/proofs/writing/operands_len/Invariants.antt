@@ -1,7 +1,7 @@
 use Rattle.std.proofs.Common.{◌≡◌, ◌+◌, drop, length}
 use Rattle.std.specs.List.{flat_map}
 use Rattle.spv_module.specs.Words.{operand_words}
-use Rattle.clv_engine.proofs.words.operands_len.Given as goal
+use Rattle.spv_binary.proofs.writing.operands_len.Given as goal
 
 abbrev pub invariant-loop-operand : goal.invariant-loop-operand
 invariant-loop-operand l =
