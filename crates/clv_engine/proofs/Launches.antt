@@ -1,5 +1,6 @@
 -- A launch that fits a kernel: its one argument, and the start that it gives the kernel's module.
-use Rattle.std.proofs.Common.{◌≡◌, ℕ, zero, suc, ◌<◌, List, [], ◌∷◌, length, Option, Some, None, cond, ◌&&◌, refl, sym, ap, ◌∙◌, arith, slice_get, slice_index_or, Contains}
+use Rattle.std.proofs.Common.{◌≡◌, ℕ, zero, suc, ◌%◌, ◌<◌, ◌≤◌, List, [], ◌∷◌, length, Option, Some, None, cond, ◌&&◌, refl, sym, ap, ◌∙◌, arith, slice_get, slice_index_or, Contains}
+use Rattle.std.proofs.lemmas.Bool.{lt-ltb}
 use Rattle.std.proofs.lemmas.Slice.Eq.{bytes_eq-Decides}
 use Rattle.spv_module.specs.declared.enumerant.decoration.TheConstants as decoration
 use Rattle.clv_engine.specs.declared.form.Kernel.{Kernel}
@@ -11,7 +12,7 @@ use Rattle.clv_engine.specs.Emitted.{body_of}
 use Rattle.clv_engine.specs.Interface.{is_number, variables_in}
 use Rattle.clv_engine.specs.Reflection.{BufferRow, ArgumentRow, KernelRow, Reflection, reflection_of}
 use Rattle.clv_engine.specs.Binding.{Start, variable_among, stride_of, parameter_of, kernel_among, start_of, binding_of, BindsTo}
-use Rattle.clv_engine.specs.Promises.{Fits}
+use Rattle.clv_engine.specs.Promises.{Fits, surroundings_of}
 use Rattle.clv_engine.proofs.FactsScans.{none_behind}
 use Rattle.clv_engine.proofs.FactsInterface.{variables_are}
 use Rattle.clv_engine.proofs.FactsReflection.{rows_are}
@@ -42,6 +43,16 @@ pub has_buffer : (k : Kernel) (l : Launch) → Fits k l → HasBuffer l
 has_buffer k l f =
     let g = f.rules.given 0 (omega arith) in
     with_buffer l g.0 (only_one l.arguments _ f.rules.once g.1) (f.rules.suits 0 (GlobalPointer 4) g.0 refl g.1)
+
+-- what each item is told of its place along x
+pub global_id_is : (l : Launch) (n : ℕ) → 1 ≤ l.dims → (surroundings_of l n).global_id 0 ≡ n % l.global.x
+global_id_is l n some = ap (λ t. cond t (n % l.global.x) 0) (lt-ltb 0 l.dims some)
+
+pub global_id_within : (k : Kernel) (l : Launch) (n : ℕ) → Fits k l → (surroundings_of l n).global_id 0 < l.global.x
+global_id_within k l n f =
+    let e = global_id_is l n f.launch.some in
+    let some = f.launch.global.x.some in
+    omega (arith, e, some)
 
 -- the row of the kernel and of its argument
 abbrev argument_row : Kernel → ArgumentRow

@@ -2,6 +2,7 @@ pub mod CommandWords
 pub mod Compiled
 pub mod Decided
 pub mod Decimals
+pub mod Defined
 pub mod FactsInterface
 pub mod FactsReflection
 pub mod FactsScans

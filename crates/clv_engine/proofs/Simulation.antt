@@ -1,5 +1,5 @@
 -- Each invocation of a kernel's module does what its work-item does.
-use Rattle.std.proofs.Common.{◌≡◌, ℕ, ◌+◌, ◌-◌, ◌*◌, ◌/◌, ◌%◌, ◌^◌, ◌<◌, ◌≤◌, List, [], length, Some, None, cond, refl, sym, ap, ◌∙◌, subst, arith, inl, inr, All}
+use Rattle.std.proofs.Common.{◌≡◌, ℕ, ◌+◌, ◌-◌, ◌*◌, ◌/◌, ◌%◌, ◌^◌, ◌<◌, ◌≤◌, List, [], length, Some, None, refl, sym, ap, ◌∙◌, subst, arith, inl, inr, All}
 use Rattle.std.proofs.lemmas.Bool.{lt-ltb}
 use Rattle.clv_steps.specs.Runs.{Follows}
 use Rattle.clv_worlds.specs.Simulation.{Serves}
@@ -21,7 +21,8 @@ use Rattle.clv_engine.specs.Promises.{Fits, surroundings_of, in_function, given_
 use Rattle.clv_engine.proofs.NumberTests.{less_or_not}
 use Rattle.clv_steps.proofs.Quiet.{Quietly, worth, at_credit, source_quiet, target_quiet}
 use Rattle.clv_engine.proofs.Places.{lies_found}
-use Rattle.clv_engine.proofs.Launches.{HasBuffer, has_buffer, start_for, binds_found, start_only}
+use Rattle.clv_engine.proofs.Launches.{HasBuffer, has_buffer, global_id_is, global_id_within, start_for, binds_found, start_only}
+use Rattle.clv_engine.proofs.Defined.{each_defined}
 use Rattle.clv_engine.proofs.SourceRun.{total_of, at_index, at_store, written, index_fails, store_fails, store_asks, to_index, to_store}
 use Rattle.clv_engine.proofs.TargetRun.{IsStart, Writes, to_write}
 
@@ -101,9 +102,6 @@ buffer_is l n b = ap (λ as_. or_default (buffer_among 0 as_) 0) b.arguments
 size_is : (l : Launch) (n : ℕ) (b : HasBuffer l) → (surroundings_of l n).size ≡ length b.bytes
 size_is l n b = ap (λ m. or_default (size_of l.buffers m) 0) (buffer_is l n b) ∙ ap (λ o. or_default (o >>= λ bytes. Some (length bytes)) 0) b.found
 
-global_id_is : (l : Launch) (n : ℕ) → 1 ≤ l.dims → (surroundings_of l n).global_id 0 ≡ n % l.global.x
-global_id_is l n some = ap (λ t. cond t (n % l.global.x) 0) (lt-ltb 0 l.dims some)
-
 writes_found : (k : Kernel) (l : Launch) (n : ℕ) → Fits k l → 0 + 4 * (surroundings_of l n).global_id 0 + 4 ≤ (surroundings_of l n).size
     → Writes (given_of (body_of k) l (start_for k l) n) id.MAIN (place_after (body_of k) id.MAIN) (6 + 5 * length k.terms) (surroundings_of l n).buffer ((surroundings_of l n).global_id 0) (total_of ((surroundings_of l n).global_id 0) k.terms)
 writes_found k l n f room =
@@ -119,7 +117,7 @@ writes_found k l n f room =
 
 both_found : (k : Kernel) (l : Launch) (n : ℕ) → IsKernel k → Fits k l → Both k (surroundings_of l n) (given_of (body_of k) l (start_for k l) n) id.MAIN (place_after (body_of k) id.MAIN)
 both_found k l n kernel f = record {
-  word = let e = global_id_is l n f.launch.some in let some = f.launch.global.x.some in let word = f.launch.global.x.word in omega (arith, e, some, word);
+  word = let low = global_id_within k l n f in let word = f.launch.global.x.word in omega (arith, low, word);
   terms = kernel.terms;
   writes = writes_found k l n f;
 }
@@ -154,4 +152,5 @@ worlds_serve k l start kernel f b = record {
 pub world_simulation : (k : Kernel) → IsKernel k → WorldSimulation (body_of k) k
 world_simulation k kernel = record {
   worlds = λ l start f b defined. simulated (shared_of l) (source_world k l start.function) (module_world (body_of k) l start) (worth 256) 256 256 (worlds_serve k l start kernel f b) l.buffers defined;
+  defined = λ l function f room. each_defined k l function kernel f room;
 }

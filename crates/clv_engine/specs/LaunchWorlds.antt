@@ -1,5 +1,5 @@
 -- All work-items of a launch over its buffers, in any order: those of the source, and the invocations of the module.
-use Rattle.std.specs.Prelude.{ℕ, zero, suc, ◌+◌, ◌*◌, ◌/◌, ◌%◌, true, false, List, [], ◌∷◌, ◌++◌, length, take, drop, Option, None}
+use Rattle.std.specs.Prelude.{ℕ, zero, suc, ◌+◌, ◌*◌, ◌/◌, ◌%◌, ◌≤◌, true, false, List, [], ◌∷◌, ◌++◌, length, take, drop, Option, None}
 use Rattle.spv_module.specs.declared.module.Inst.{Inst}
 use Rattle.clv_worlds.specs.Worlds.{Shared, Program, IsDefined}
 use Rattle.clv_worlds.specs.Simulation.{Simulated}
@@ -55,6 +55,12 @@ source_world k l function = record { machine = λ item. source_item (surrounding
 abbrev pub module_world : List Inst → Launch → Start → Program Run Asked Asked
 module_world body l start = record { machine = λ item. invocation (given_of body l start item); start = λ item. first_run (given_of body l start item); word = λ asked. asked; gate = no_gate; takes_any = true }
 
+-- The first argument's buffer has an element of four bytes for each place along x. Each item sees the same buffer, so the first item's stands for all.
+abbrev pub HasRoom : Launch → Type 0
+HasRoom l = 4 * l.global.x ≤ (surroundings_of l 0).size
+
 -- World simulation: on each launch that fits the kernel and on which no run of the source comes to what is undefined, no run of the module traps or is stuck, in whatever order its invocations take their steps. Each run has one of the source beside it with the same writes in the same order, the same buffers, and at least a 256th of the steps; where it is complete, so is the source's.
 pub record WorldSimulation (body : List Inst) (k : Kernel) : Type 0 where
   pub worlds : (l : Launch) (start : Start) → Fits k l → BindsTo body l start → IsDefined (shared_of l) (source_world k l start.function) l.buffers → Simulated (shared_of l) (source_world k l start.function) (module_world body l start) 256 l.buffers
+  -- Each launch whose buffer has an element for each of its items along x is such a launch.
+  pub defined : (l : Launch) (function : ℕ) → Fits k l → HasRoom l → IsDefined (shared_of l) (source_world k l function) l.buffers
