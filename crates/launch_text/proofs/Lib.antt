@@ -1,0 +1,7 @@
+pub mod Drafts
+pub mod Files
+pub mod Firsts
+pub mod LineBreaks
+pub mod Numbers
+pub mod Places
+pub mod Reading

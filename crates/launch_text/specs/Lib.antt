@@ -1,0 +1,6 @@
+pub mod Answers
+pub mod Drafts
+pub mod LaunchText
+pub mod Lines
+pub mod Said
+pub mod WorkItems

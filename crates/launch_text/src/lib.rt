@@ -1,0 +1,15 @@
+//! The reading room: launch texts, which name a kernel, the sizes of its grid and what its arguments are
+//! given, read into launches; and what one work-item can see of a launch.
+#![tactic(auto)]
+
+mod draft;
+pub mod launch;
+mod line;
+mod number;
+pub mod read;
+mod said;
+#[cfg(test)]
+mod tests;
+
+pub use launch::{ArgKind, ArgLine, ArgSize, Launch, LaunchSizes, LaunchStop, Schedule};
+pub use read::read_launch;
