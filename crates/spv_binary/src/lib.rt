@@ -2,6 +2,16 @@
 //! (SPIR-V 2.2.1 and 2.3).
 #![tactic(auto)]
 
+mod kind;
+pub mod reading;
+mod shape;
+pub mod stop;
+mod string;
+#[cfg(test)]
+mod tests;
+mod words;
 pub mod writing;
 
+pub use reading::read;
+pub use stop::{ReadStop, rule};
 pub use writing::write;
