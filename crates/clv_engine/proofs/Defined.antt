@@ -7,11 +7,12 @@ use Rattle.clv_worlds.proofs.Statuses.{asks_fails}
 use Rattle.clv_engine.specs.declared.form.Kernel.{Kernel}
 use Rattle.clv_engine.specs.declared.form.Term.{Term}
 use Rattle.clv_engine.specs.FirstForm.{IsTerm, IsKernel}
-use Rattle.clv_engine.specs.Events.{Asked}
-use Rattle.clv_engine.specs.Launch.{Launch}
+use Rattle.spv_meaning.specs.Events.{Asked}
+use Rattle.launch_text.specs.Rules.{LoadedLaunch}
 use Rattle.clv_engine.specs.SourceItem.{Item, item, Surroundings, source_item, first_state}
 use Rattle.clv_engine.specs.Promises.{Fits, surroundings_of}
-use Rattle.clv_engine.specs.LaunchWorlds.{Buffers, shared_of, source_world, HasRoom}
+use Rattle.spv_meaning.specs.Worlds.{Buffers}
+use Rattle.clv_engine.specs.LaunchWorlds.{shared_of, source_world, HasRoom}
 use Rattle.clv_engine.proofs.Launches.{global_id_within}
 use Rattle.clv_engine.proofs.SourceRun.{at_index, at_store, written, store_asks, to_index, to_store}
 
@@ -64,21 +65,21 @@ never_undefined : (k : Kernel) (s : Surroundings) (h : List ℕ) → CanWrite k 
 never_undefined k s h c = line_defined k s c (after (source_item s) h (first_state k)) (stays_on s k.terms h (first_state k) (begins k s c))
 
 -- each item of the launch has its element
-can_write : (k : Kernel) (l : Launch) (n : ℕ) → IsKernel k → Fits k l → HasRoom l → CanWrite k (surroundings_of l n)
+can_write : (k : Kernel) (l : LoadedLaunch) (n : ℕ) → IsKernel k → Fits k l → HasRoom l → CanWrite k (surroundings_of l n)
 can_write k l n kernel f room =
     let low = global_id_within k l n f in
     let word = f.launch.global.x.word in
     let here : 4 * l.global.x ≤ (surroundings_of l n).size = room in
     record { word = omega (arith, low, word); terms = kernel.terms; room = omega (arith, low, here) }
 
-no_wait : (k : Kernel) (l : Launch) (function n : ℕ) (w : World Asked Buffers) (chain : List ℕ) → WaitsAt (source_world k l function) w n chain → ⊥
+no_wait : (k : Kernel) (l : LoadedLaunch) (function n : ℕ) (w : World Asked Buffers) (chain : List ℕ) → WaitsAt (source_world k l function) w n chain → ⊥
 no_wait k l function n w chain waits = let c : ◌≡◌ {A = Option (List ℕ)} None (Some chain) = waits.gate in cc
 
-never_wrong : (k : Kernel) (l : Launch) (function : ℕ) → IsKernel k → Fits k l → HasRoom l → (w : World Asked Buffers) → IsWrong (shared_of l) (source_world k l function) w → ⊥
+never_wrong : (k : Kernel) (l : LoadedLaunch) (function : ℕ) → IsKernel k → Fits k l → HasRoom l → (w : World Asked Buffers) → IsWrong (shared_of l) (source_world k l function) w → ⊥
 never_wrong k l function kernel f room w (fails n low undefined) = never_undefined k (surroundings_of l n) (w.items n) (can_write k l n kernel f room) undefined
 never_wrong k l function kernel f room w (denied n asked low asks denies taken) = let c : false ≡ true = denies in cc
 never_wrong k l function kernel f room w (mismatched g unmet) = no_wait k l function unmet.one.0 w unmet.one.3 unmet.one.4
 
 -- Nothing goes wrong in any world, however it was reached.
-pub each_defined : (k : Kernel) (l : Launch) (function : ℕ) → IsKernel k → Fits k l → HasRoom l → IsDefined (shared_of l) (source_world k l function) l.buffers
+pub each_defined : (k : Kernel) (l : LoadedLaunch) (function : ℕ) → IsKernel k → Fits k l → HasRoom l → IsDefined (shared_of l) (source_world k l function) l.buffers
 each_defined k l function kernel f room = λ w run wrong. never_wrong k l function kernel f room w wrong

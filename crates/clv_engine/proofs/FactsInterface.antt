@@ -11,7 +11,8 @@ use Rattle.spv_module.specs.declared.enumerant.capability.TheConstants as capabi
 use Rattle.spv_module.specs.declared.enumerant.addressing_model.TheConstants as addressing_model
 use Rattle.spv_module.specs.declared.enumerant.memory_model.TheConstants as memory_model
 use Rattle.spv_module.specs.declared.enumerant.execution_model.TheConstants as execution_model
-use Rattle.clv_engine.specs.Interface.{Entry, variables_in, functions_in, capabilities_in, memory_models_in, modes_in, entry_points_in, IsBufferVariable, HasGroupSize, IsUintBuffer, InterfaceAgrees}
+use Rattle.spv_module.specs.Interface.{Entry, variables_in, functions_in, capabilities_in, memory_models_in, modes_in, entry_points_in, IsBufferVariable, HasGroupSize}
+use Rattle.clv_engine.specs.Interface.{IsUintBuffer, InterfaceAgrees}
 use Rattle.clv_engine.specs.Emitted.{body_of}
 use Rattle.clv_engine.proofs.FactsScans.{past_constants, past_terms, variables_pass, functions_pass, capabilities_pass, memory_models_pass, modes_pass, entry_points_pass, none_behind, no_member_behind}
 

@@ -1,16 +1,20 @@
 -- The reflection lines of a kernel's module agree with the kernel.
-use Rattle.std.proofs.Common.{◌≡◌, ℕ, true, zero, suc, List, [], ◌∷◌, ◌++◌, Option, Some, refl, sym, subst, ap, ◌∙◌, arith, slice_get, count_by}
+use Rattle.std.proofs.Common.{◌≡◌, ℕ, true, zero, suc, List, [], ◌∷◌, ◌++◌, Option, Some, None, refl, sym, subst, ap, ◌∙◌, arith, slice_get, count_by}
 use Rattle.std.specs.Prelude.{All, Contains}
 use Rattle.std.proofs.lemmas.List.Elements.{All-nil, All-cons, All-contains}
 use Rattle.spv_module.specs.declared.enumerant.storage_class.TheConstants as storage_class
 use Rattle.clv_engine.specs.declared.form.Kernel.{Kernel}
 use Rattle.clv_engine.specs.declared.id.TheConstants as id
 use Rattle.clv_engine.specs.FirstForm.{IsKernel}
-use Rattle.clv_engine.specs.Options.{◌>>=◌}
-use Rattle.clv_engine.specs.Instructions.{Said, Function, definition_in}
+use Rattle.spv_module.specs.Options.{◌>>=◌}
+use Rattle.spv_module.specs.Instructions.{Said, Function, definition_in}
 use Rattle.spv_module.specs.declared.enumerant.execution_model.TheConstants as execution_model
-use Rattle.clv_engine.specs.Interface.{Entry, entry_points_in, variables_in, is_bound_at, IsBufferVariable}
-use Rattle.clv_engine.specs.Reflection.{BufferRow, ArgumentRow, KernelRow, Line, KernelLine, NameLine, BufferLine, SizesLine, function_by, or_wrong, lines_in, rows_by, rows_of, is_row_of, KeepsReflectionRules, reflection_of, ReflectionAgrees}
+use Rattle.spv_module.specs.Interface.{Entry, entry_points_in, variables_in, is_bound_at, IsBufferVariable}
+use Rattle.spv_reflect.specs.declared.rows.ArgKindRow.TheVariants.{Buffer as BufferRow}
+use Rattle.spv_reflect.specs.declared.rows.ArgRow.{ArgRow}
+use Rattle.spv_reflect.specs.declared.rows.KernelRow.{KernelRow}
+use Rattle.clv_engine.specs.KernelRows.{reflection_of, ReflectionAgrees}
+use Rattle.spv_reflect.specs.Reflection.{Line, KernelLine, NameLine, BufferLine, SizesLine, function_by, or_wrong, lines_in, rows_by, rows_of, is_row_of, KeepsReflectionRules}
 use Rattle.clv_engine.specs.Emitted.{sum, function_end, reflection, body_of}
 use Rattle.clv_engine.proofs.FactsScans.{past_constants, past_terms, lines_pass, definition_behind, Contains-one, Contains-first}
 use Rattle.clv_engine.proofs.FactsInterface.{the_variables, variables_are, the_entry, functions_are, entry_points_are, buffer_variable, group_size}
@@ -55,11 +59,11 @@ module _ (k : Kernel) where
 
 -- ---- the rules
 
-abbrev the_argument : Kernel → ArgumentRow
+abbrev the_argument : Kernel → ArgRow
 the_argument k = record { name = k.argument ∷ []; kind = BufferRow 0 0 }
 
 abbrev the_row : Kernel → KernelRow
-the_row k = record { function = id.MAIN; name = k.name ∷ []; arguments = the_argument k ∷ [] }
+the_row k = record { function = id.MAIN; name = k.name ∷ []; args = the_argument k ∷ []; required = None }
 
 -- the entry point that a row wants
 abbrev entry_of : KernelRow → Entry
@@ -96,25 +100,25 @@ module _ (k : Kernel) where
       (sym (Contains-one (the_entry k) e (subst (λ (es : List Entry). Contains es e) (entry_points_are k) c)))
       refl
 
-  argument_kind : (row : KernelRow) (a : ArgumentRow) → Contains (the_row k ∷ []) row → Contains row.arguments a → a.kind ≡ BufferRow 0 0
+  argument_kind : (row : KernelRow) (a : ArgRow) → Contains (the_row k ∷ []) row → Contains row.args a → a.kind ≡ BufferRow 0 0
   argument_kind row a c d =
-      ap (λ (b : ArgumentRow). b.kind)
-      (Contains-one (the_argument k) a (subst (λ (r : KernelRow). Contains r.arguments a) (Contains-one (the_row k) row c) d))
+      ap (λ (b : ArgRow). b.kind)
+      (Contains-one (the_argument k) a (subst (λ (r : KernelRow). Contains r.args a) (Contains-one (the_row k) row c) d))
 
-  variables : (row : KernelRow) (a : ArgumentRow) (set binding : ℕ) → Contains (the_row k ∷ []) row → Contains row.arguments a → a.kind ≡ BufferRow set binding → (v element stride : ℕ) × (is_bound_at (body_of k) v set binding ≡ true) × IsBufferVariable (body_of k) v element stride
+  variables : (row : KernelRow) (a : ArgRow) (set binding : ℕ) → Contains (the_row k ∷ []) row → Contains row.args a → a.kind ≡ BufferRow set binding → (v element stride : ℕ) × (is_bound_at (body_of k) v set binding ≡ true) × IsBufferVariable (body_of k) v element stride
   variables row a set binding c d e =
       let f : BufferRow 0 0 ≡ BufferRow set binding = sym (argument_kind row a c d) ∙ e in
       let g : is_bound_at (body_of k) id.BUFFER set binding ≡ true = rw (← set_is 0 0 set binding f, ← binding_is 0 0 set binding f) in
       (id.BUFFER, id.UINT, 4, g, buffer_variable k)
 
-  pairs : (row : KernelRow) (m n : ℕ) (a b : ArgumentRow) → Contains (the_row k ∷ []) row → slice_get row.arguments m ≡ Some a → slice_get row.arguments n ≡ Some b → a.kind ≡ b.kind → m ≡ n
+  pairs : (row : KernelRow) (m n : ℕ) (a b : ArgRow) → Contains (the_row k ∷ []) row → slice_get row.args m ≡ Some a → slice_get row.args n ≡ Some b → a.kind ≡ b.kind → m ≡ n
   pairs row m n a b c d e f =
       let r = Contains-one (the_row k) row c in
-      let p = subst (λ (r : KernelRow). slice_get r.arguments m ≡ Some a) r d in
-      let q = subst (λ (r : KernelRow). slice_get r.arguments n ≡ Some b) r e in
+      let p = subst (λ (r : KernelRow). slice_get r.args m ≡ Some a) r d in
+      let q = subst (λ (r : KernelRow). slice_get r.args n ≡ Some b) r e in
       only_place (the_argument k) a m p ∙ sym (only_place (the_argument k) b n q)
 
-  named : (v : ℕ) → Contains (variables_in (body_of k)) (v, storage_class.STORAGE_BUFFER) → (row : KernelRow) × (a : ArgumentRow) × (set : ℕ) × (binding : ℕ) × Contains (the_row k ∷ []) row × Contains row.arguments a × (a.kind ≡ BufferRow set binding) × (is_bound_at (body_of k) v set binding ≡ true)
+  named : (v : ℕ) → Contains (variables_in (body_of k)) (v, storage_class.STORAGE_BUFFER) → (row : KernelRow) × (a : ArgRow) × (set : ℕ) × (binding : ℕ) × Contains (the_row k ∷ []) row × Contains row.args a × (a.kind ≡ BufferRow set binding) × (is_bound_at (body_of k) v set binding ≡ true)
   named v c =
       let f = All-contains IsTheBuffer the_variables (v, storage_class.STORAGE_BUFFER) all_the_buffer (subst (λ (vs : List (ℕ × ℕ)). Contains vs (v, storage_class.STORAGE_BUFFER)) (variables_are k) c) refl in
       let bound = subst (λ (w : ℕ). is_bound_at (body_of k) w 0 0 ≡ true) (sym f) refl in

@@ -8,9 +8,9 @@ use Rattle.spv_module.specs.declared.op.TheConstants as op
 use Rattle.clv_engine.specs.declared.form.Term.{Term}
 use Rattle.clv_engine.specs.declared.form.Term.TheVariants.{GlobalId, Literal}
 use Rattle.clv_engine.specs.declared.id.TheConstants as id
-use Rattle.clv_engine.specs.Instructions.{Constant, definition_in, decoration_in, member_decoration_in}
-use Rattle.clv_engine.specs.Interface.{variables_in, functions_in, capabilities_in, memory_models_in, modes_in, entry_points_in}
-use Rattle.clv_engine.specs.Reflection.{lines_in}
+use Rattle.spv_module.specs.Instructions.{Constant, definition_in, decoration_in, member_decoration_in}
+use Rattle.spv_module.specs.Interface.{variables_in, functions_in, capabilities_in, memory_models_in, modes_in, entry_points_in}
+use Rattle.spv_reflect.specs.Reflection.{lines_in}
 use Rattle.clv_engine.specs.Emitted.{inst, constants_from, function_begin, global_id, terms, sums_from, sum, function_end, reflection}
 
 -- all behind the terms' constants

@@ -7,7 +7,7 @@ use Rattle.clv_engine.specs.declared.form.Kernel.{Kernel}
 use Rattle.clv_engine.specs.declared.form.Term.{Term}
 use Rattle.clv_engine.specs.declared.form.Term.TheVariants.{GlobalId, Literal}
 use Rattle.clv_engine.specs.declared.id.TheConstants as id
-use Rattle.clv_engine.specs.Instructions.{Constant, result_of, is_result, said, definition_in}
+use Rattle.spv_module.specs.Instructions.{Constant, result_of, is_result, said, definition_in}
 use Rattle.clv_engine.specs.Emitted.{inst, head, constants_from, body_of}
 use Rattle.clv_engine.proofs.NumberTests.{other_number}
 

@@ -8,10 +8,10 @@ use Rattle.clv_engine.specs.declared.form.Kernel.{Kernel}
 use Rattle.clv_engine.specs.declared.form.Term.{Term}
 use Rattle.clv_engine.specs.declared.form.Term.TheVariants.{GlobalId, Literal}
 use Rattle.clv_engine.specs.declared.id.TheConstants as id
-use Rattle.clv_engine.specs.Instructions.{Said, Function, said}
+use Rattle.spv_module.specs.Instructions.{Said, Function, said}
 use Rattle.clv_engine.specs.Emitted.{inst, head, constants_from, global_id, terms, sum, function_end, reflection, body_of}
-use Rattle.clv_engine.specs.Interface.{function_by, functions_in}
-use Rattle.clv_engine.specs.Invocation.{is_function, place_after}
+use Rattle.spv_module.specs.Interface.{function_by, functions_in}
+use Rattle.spv_meaning.specs.Invocation.{is_function, place_after}
 
 -- these instructions stand from the place on
 abbrev pub Lies : List Inst → ℕ → List Inst → Type 0

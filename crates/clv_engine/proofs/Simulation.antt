@@ -1,5 +1,5 @@
 -- Each invocation of a kernel's module does what its work-item does.
-use Rattle.std.proofs.Common.{◌≡◌, ℕ, ◌+◌, ◌-◌, ◌*◌, ◌/◌, ◌%◌, ◌^◌, ◌<◌, ◌≤◌, List, [], length, Some, None, refl, sym, ap, ◌∙◌, subst, arith, inl, inr, All}
+use Rattle.std.proofs.Common.{◌≡◌, ℕ, ◌+◌, ◌-◌, ◌*◌, ◌/◌, ◌%◌, ◌^◌, ◌<◌, ◌≤◌, List, [], length, Some, None, refl, sym, ap, ◌∙◌, subst, arith, inl, inr, All, option_map}
 use Rattle.std.proofs.lemmas.Bool.{lt-ltb}
 use Rattle.clv_steps.specs.Runs.{Follows}
 use Rattle.clv_worlds.specs.Simulation.{Serves}
@@ -9,15 +9,22 @@ use Rattle.clv_steps.proofs.Moments.{moments}
 use Rattle.clv_engine.specs.declared.form.Kernel.{Kernel}
 use Rattle.clv_engine.specs.declared.id.TheConstants as id
 use Rattle.clv_engine.specs.FirstForm.{IsTerm, IsKernel}
-use Rattle.clv_engine.specs.Launch.{Launch, place_of}
+use Rattle.launch_text.specs.Rules.{LoadedLaunch}
+use Rattle.launch_text.specs.WorkItems.{place_in}
 use Rattle.clv_engine.specs.SourceItem.{Item, item, Surroundings, source_item, first_state}
 use Rattle.clv_engine.specs.Emitted.{body_of}
-use Rattle.clv_engine.specs.Reflection.{BufferRow}
-use Rattle.clv_engine.specs.Options.{◌>>=◌}
-use Rattle.clv_engine.specs.Binding.{Start, BindsTo, bound_by, buffer_among}
-use Rattle.clv_engine.specs.LaunchWorlds.{shared_of, source_world, module_world, WorldSimulation}
-use Rattle.clv_engine.specs.Invocation.{Run, run, over, Given, size_of, or_default, place_after, invocation, first_run}
-use Rattle.clv_engine.specs.Promises.{Fits, surroundings_of, in_function, given_of, ItemSimulation}
+use Rattle.spv_reflect.specs.declared.rows.ArgKindRow.TheVariants.{Buffer as BufferRow}
+use Rattle.spv_module.specs.Options.{◌>>=◌}
+use Rattle.spv_meaning.specs.Start.{Start}
+use Rattle.launch_text.specs.Rules.{buffer_given}
+use Rattle.vk_bind.specs.Binding.{BindsTo, bound_by}
+use Rattle.spv_meaning.specs.Worlds.{module_world}
+use Rattle.clv_engine.specs.LaunchWorlds.{shared_of, source_world, WorldSimulation}
+use Rattle.launch_text.specs.Rules.{size_of}
+use Rattle.spv_module.specs.Options.{or_default}
+use Rattle.spv_meaning.specs.Invocation.{Run, run, over, Given, place_after, invocation, first_run}
+use Rattle.spv_meaning.specs.Invocation.{given_of}
+use Rattle.clv_engine.specs.Promises.{Fits, surroundings_of, in_function, ItemSimulation}
 use Rattle.clv_engine.proofs.NumberTests.{less_or_not}
 use Rattle.clv_steps.proofs.Quiet.{Quietly, worth, at_credit, source_quiet, target_quiet}
 use Rattle.clv_engine.proofs.Places.{lies_found}
@@ -85,37 +92,37 @@ both_follow k s g f p b =
     follows (source_item s) (invocation g) (in_function f) (worth 256) 256 (Left g) (left_goes s g f) (first_state k) (run f p [] []) begin
 
 -- the item's invocation follows it
-abbrev ItemFollows : Kernel → Launch → Start → ℕ → Type 0
-ItemFollows k l start n = Follows (source_item (surroundings_of l n)) (invocation (given_of (body_of k) l start n)) (in_function start.function) (worth 256) 256 (first_state k) (first_run (given_of (body_of k) l start n))
+abbrev ItemFollows : Kernel → LoadedLaunch → Start → ℕ → Type 0
+ItemFollows k l start n = Follows (source_item (surroundings_of l n)) (invocation (given_of (body_of k) start n)) (in_function start.function) (worth 256) 256 (first_state k) (first_run (given_of (body_of k) start n))
 
 -- the launch's side
-start_is : (k : Kernel) (l : Launch) (b : HasBuffer l) → IsStart (start_for k l) b.file (length b.bytes)
+start_is : (k : Kernel) (l : LoadedLaunch) (b : HasBuffer l) → IsStart (start_for k l) b.file (length b.bytes)
 start_is k l b = record {
   function = refl;
-  bound = ap (λ as_. bound_by (BufferRow 0 0) (buffer_among 0 as_) []) b.arguments;
-  sized = ap (λ o. o >>= λ bytes. Some (length bytes)) b.found;
+  bound = ap (λ as_. bound_by (BufferRow 0 0) (buffer_given 0 as_) []) b.arguments;
+  sized = ap (option_map length) b.found;
 }
 
-buffer_is : (l : Launch) (n : ℕ) (b : HasBuffer l) → (surroundings_of l n).buffer ≡ b.file
-buffer_is l n b = ap (λ as_. or_default (buffer_among 0 as_) 0) b.arguments
+buffer_is : (l : LoadedLaunch) (n : ℕ) (b : HasBuffer l) → (surroundings_of l n).buffer ≡ b.file
+buffer_is l n b = ap (λ as_. or_default (buffer_given 0 as_) 0) b.arguments
 
-size_is : (l : Launch) (n : ℕ) (b : HasBuffer l) → (surroundings_of l n).size ≡ length b.bytes
-size_is l n b = ap (λ m. or_default (size_of l.buffers m) 0) (buffer_is l n b) ∙ ap (λ o. or_default (o >>= λ bytes. Some (length bytes)) 0) b.found
+size_is : (l : LoadedLaunch) (n : ℕ) (b : HasBuffer l) → (surroundings_of l n).size ≡ length b.bytes
+size_is l n b = ap (λ m. or_default (size_of l.buffers m) 0) (buffer_is l n b) ∙ ap (λ o. or_default (option_map length o) 0) b.found
 
-writes_found : (k : Kernel) (l : Launch) (n : ℕ) → Fits k l → 0 + 4 * (surroundings_of l n).global_id 0 + 4 ≤ (surroundings_of l n).size
-    → Writes (given_of (body_of k) l (start_for k l) n) id.MAIN (place_after (body_of k) id.MAIN) (6 + 5 * length k.terms) (surroundings_of l n).buffer ((surroundings_of l n).global_id 0) (total_of ((surroundings_of l n).global_id 0) k.terms)
+writes_found : (k : Kernel) (l : LoadedLaunch) (n : ℕ) → Fits k l → 0 + 4 * (surroundings_of l n).global_id 0 + 4 ≤ (surroundings_of l n).size
+    → Writes (given_of (body_of k) (start_for k l) n) id.MAIN (place_after (body_of k) id.MAIN) (6 + 5 * length k.terms) (surroundings_of l n).buffer ((surroundings_of l n).global_id 0) (total_of ((surroundings_of l n).global_id 0) k.terms)
 writes_found k l n f room =
     let b = has_buffer k l f in
-    let g = given_of (body_of k) l (start_for k l) n in
+    let g = given_of (body_of k) (start_for k l) n in
     let p = place_after (body_of k) id.MAIN in
     let x = n % l.global.x in
     let sized = size_is l n b in
     let same = global_id_is l n f.launch.some in
     let low : x < (length b.bytes - 0) / 4 = omega (arith, room, sized, same) in
-    let w = to_write k (start_for k l) (place_of l n) id.MAIN p b.file (length b.bytes) (start_is k l b) (lt-ltb x ((length b.bytes - 0) / 4) low) (lies_found k) in
+    let w = to_write k (start_for k l) (place_in l.global n) id.MAIN p b.file (length b.bytes) (start_is k l b) (lt-ltb x ((length b.bytes - 0) / 4) low) (lies_found k) in
     subst (λ y. Writes g id.MAIN p (6 + 5 * length k.terms) (surroundings_of l n).buffer y (total_of y k.terms)) (sym same) (subst (λ m. Writes g id.MAIN p (6 + 5 * length k.terms) m x (total_of x k.terms)) (sym (buffer_is l n b)) w)
 
-both_found : (k : Kernel) (l : Launch) (n : ℕ) → IsKernel k → Fits k l → Both k (surroundings_of l n) (given_of (body_of k) l (start_for k l) n) id.MAIN (place_after (body_of k) id.MAIN)
+both_found : (k : Kernel) (l : LoadedLaunch) (n : ℕ) → IsKernel k → Fits k l → Both k (surroundings_of l n) (given_of (body_of k) (start_for k l) n) id.MAIN (place_after (body_of k) id.MAIN)
 both_found k l n kernel f = record {
   word = let low = global_id_within k l n f in let word = f.launch.global.x.word in omega (arith, low, word);
   terms = kernel.terms;
@@ -123,20 +130,20 @@ both_found k l n kernel f = record {
 }
 
 -- each item of a launch is followed by its invocation
-pub item_follows : (k : Kernel) (l : Launch) (start : Start) (n : ℕ) → IsKernel k → Fits k l → BindsTo (body_of k) l start → ItemFollows k l start n
-item_follows k l start n kernel f b = subst (λ at. ItemFollows k l at n) (start_only k l start f b) (both_follow k (surroundings_of l n) (given_of (body_of k) l (start_for k l) n) id.MAIN (place_after (body_of k) id.MAIN) (both_found k l n kernel f))
+pub item_follows : (k : Kernel) (l : LoadedLaunch) (start : Start) (n : ℕ) → IsKernel k → Fits k l → BindsTo (body_of k) l start → ItemFollows k l start n
+item_follows k l start n kernel f b = subst (λ at. ItemFollows k l at n) (start_only k l start f b) (both_follow k (surroundings_of l n) (given_of (body_of k) (start_for k l) n) id.MAIN (place_after (body_of k) id.MAIN) (both_found k l n kernel f))
 
 pub item_simulation : (k : Kernel) → IsKernel k → ItemSimulation (body_of k) k
 item_simulation k kernel = record {
   binds = λ l f. (start_for k l, binds_found k l f);
-  serves = λ l start n f b low. moments (source_item (surroundings_of l n)) (invocation (given_of (body_of k) l start n)) (in_function start.function) (worth 256) 256 256 (first_state k) (first_run (given_of (body_of k) l start n)) worth_most (omega arith) (item_follows k l start n kernel f b);
+  serves = λ l start n f b low. moments (source_item (surroundings_of l n)) (invocation (given_of (body_of k) start n)) (in_function start.function) (worth 256) 256 256 (first_state k) (first_run (given_of (body_of k) start n)) worth_most (omega arith) (item_follows k l start n kernel f b);
 }
 
 -- nothing is a barrier
 no_chain : {A : Type 0} (k : List ℕ) → None ≡ Some k → A
 no_chain k e = absurd (let c : None ≡ Some k = e in cc)
 
-worlds_serve : (k : Kernel) (l : Launch) (start : Start) → IsKernel k → Fits k l → BindsTo (body_of k) l start → Serves (shared_of l) (source_world k l start.function) (module_world (body_of k) l start) (worth 256) 256 256
+worlds_serve : (k : Kernel) (l : LoadedLaunch) (start : Start) → IsKernel k → Fits k l → BindsTo (body_of k) l start → Serves (shared_of l) (source_world k l start.function) (module_world (body_of k) start) (worth 256) 256 256
 worlds_serve k l start kernel f b = record {
   follows = λ n low. item_follows k l start n kernel f b;
   costs = worth_most;
@@ -151,6 +158,6 @@ worlds_serve k l start kernel f b = record {
 
 pub world_simulation : (k : Kernel) → IsKernel k → WorldSimulation (body_of k) k
 world_simulation k kernel = record {
-  worlds = λ l start f b defined. simulated (shared_of l) (source_world k l start.function) (module_world (body_of k) l start) (worth 256) 256 256 (worlds_serve k l start kernel f b) l.buffers defined;
+  worlds = λ l start f b defined. simulated (shared_of l) (source_world k l start.function) (module_world (body_of k) start) (worth 256) 256 256 (worlds_serve k l start kernel f b) l.buffers defined;
   defined = λ l function f room. each_defined k l function kernel f room;
 }

@@ -10,7 +10,7 @@ use Rattle.clv_engine.specs.declared.form.Term.{Term}
 use Rattle.clv_engine.specs.declared.form.Term.TheVariants.{GlobalId, Literal}
 use Rattle.clv_engine.specs.FirstForm.{IsTerm}
 use Rattle.clv_engine.specs.SourceItem.{Expr, Number, Converted, GlobalIdOf, Sum, Typed, typed, as_uint, sum_of, term_of, sum_from, value_of, Task, Bind, Reach, PushPointer, PushNumber, ConvertTop, PassTop, CallTop, AddTop, IndexTop, StoreTop, expr_tasks, Value, Scalar, Pointer, Item, item, Surroundings, source_item, first_state}
-use Rattle.clv_engine.specs.Events.{Write, Asked}
+use Rattle.spv_meaning.specs.Events.{Write, Asked}
 use Rattle.clv_engine.proofs.NumberTests.{less_or_not}
 use Rattle.clv_steps.proofs.Quiet.{Quietly, stays, goes, and_then, one_more}
 

@@ -5,13 +5,15 @@ use Rattle.spv_module.specs.declared.module.Operand.TheVariants.{Id}
 use Rattle.spv_module.specs.declared.op.TheConstants as op
 use Rattle.clv_engine.specs.declared.form.Kernel.{Kernel}
 use Rattle.clv_engine.specs.declared.id.TheConstants as id
-use Rattle.clv_engine.specs.Options.{◌>>=◌}
-use Rattle.clv_engine.specs.Events.{Spot, Write}
-use Rattle.clv_engine.specs.Instructions.{said, definition_in}
+use Rattle.spv_module.specs.Options.{◌>>=◌}
+use Rattle.spv_meaning.specs.Events.{Spot, Write}
+use Rattle.spv_module.specs.Instructions.{said, definition_in}
 use Rattle.clv_engine.specs.Emitted.{inst, terms, sum, function_end, reflection, body_of}
-use Rattle.clv_engine.specs.Binding.{Start, pointee_by}
-use Rattle.clv_engine.specs.Launch.{Sizes}
-use Rattle.clv_engine.specs.Invocation.{Value, Scalars, PointsAt, Run, run, over, Questions, Given, Inside, Beyond, scalar_by, scalar_at, scalars_at, buffer_among, size_of, reached, spot_by, chain_spot, giving, storing, as_pointer, row_by, said_at, status_by, next_by, invocation}
+use Rattle.spv_meaning.specs.Start.{Start}
+use Rattle.spv_module.specs.Interface.{pointee_by}
+use Rattle.launch_text.specs.WorkItems.{Sizes}
+use Rattle.launch_text.specs.Rules.{size_of}
+use Rattle.spv_meaning.specs.Invocation.{Value, Scalars, PointsAt, Run, run, over, Questions, Given, Reached, Inside, Beyond, scalar_by, scalar_at, scalars_at, buffer_among, reached, spot_by, chain_spot, chain_trap, giving, storing, as_pointer, row_by, said_at, status_by, next_by, invocation}
 use Rattle.clv_steps.proofs.Quiet.{Quietly, and_then}
 use Rattle.clv_engine.proofs.Places.{Lies, code_of}
 use Rattle.clv_engine.proofs.Literals.{literals_found}
@@ -36,17 +38,21 @@ abbrev pub spot_of : ℕ → ℕ → Spot
 spot_of file x = record { buffer = file; offset = 0 + 4 * x; bits = 32 }
 
 -- an access chain, once its buffer is known, and then once its size is
-abbrev chain_in : Given → List ℕ → Option ℕ → Option Spot
-chain_in g is o = o >>= λ buffer. size_of g.start.buffers buffer >>= λ size. pointee_by (definition_in g.body id.BUFFER) >>= λ pointer. pointee_by (definition_in g.body pointer) >>= λ block. spot_by g.body buffer (reached g.body size (Inside block 0) is)
+abbrev chain_in : Given → List ℕ → Option ℕ → Option (ℕ × Reached)
+chain_in g is o = o >>= λ buffer. size_of g.start.buffers buffer >>= λ size. pointee_by (definition_in g.body id.BUFFER) >>= λ pointer. pointee_by (definition_in g.body pointer) >>= λ block. Some (buffer, reached g.body size (Inside block 0) is)
 
-abbrev chain_sized : Given → List ℕ → ℕ → Option ℕ → Option Spot
-chain_sized g is buffer o = o >>= λ size. pointee_by (definition_in g.body id.BUFFER) >>= λ pointer. pointee_by (definition_in g.body pointer) >>= λ block. spot_by g.body buffer (reached g.body size (Inside block 0) is)
+abbrev chain_sized : Given → List ℕ → ℕ → Option ℕ → Option (ℕ × Reached)
+chain_sized g is buffer o = o >>= λ size. pointee_by (definition_in g.body id.BUFFER) >>= λ pointer. pointee_by (definition_in g.body pointer) >>= λ block. Some (buffer, reached g.body size (Inside block 0) is)
+
+-- its spot, by where it has come to
+abbrev spot_at : Given → Option (ℕ × Reached) → Option Spot
+spot_at g o = o >>= λ c. spot_by g.body c.0 c.1
 
 chain_found : (k : Kernel) (start : Start) (place : Sizes) (file size x : ℕ) → IsStart start file size → nat_lt x ((size - 0) / 4) ≡ true → chain_spot (given_for k start place) id.BUFFER (Some (0 ∷ x ∷ [])) ≡ Some (spot_of file x)
 chain_found k start place file size x s low =
     let g = given_for k start place in
     let is : List ℕ = 0 ∷ x ∷ [] in
-    ap (λ bs. chain_in g is (buffer_among g.body id.BUFFER bs)) s.bound ∙ ap (chain_sized g is file) s.sized ∙ ap (λ b. spot_by g.body file (reached g.body size (cond b (Inside id.UINT (0 + 4 * x)) Beyond) [])) low
+    ap (λ bs. spot_at g (chain_in g is (buffer_among g.body id.BUFFER bs))) s.bound ∙ ap (λ o. spot_at g (chain_sized g is file o)) s.sized ∙ ap (λ b. spot_by g.body file (reached g.body size (cond b (Inside id.UINT (0 + 4 * x)) Beyond) [])) low
 
 scalars_more : (g : Given) (vs : List (ℕ × Value)) (i n : ℕ) (is ns : List ℕ) → Has g vs i n → scalars_at g vs is ≡ Some ns → scalars_at g vs (i ∷ is) ≡ Some (n ∷ ns)
 scalars_more g vs i n is ns h e = ap (λ o. scalar_by o >>= λ m. scalars_at g vs is >>= λ ms. Some (m ∷ ms)) h ∙ ap (λ o. o >>= λ ms. Some (n ∷ ms)) e
@@ -102,7 +108,7 @@ chain_runs k start place f p file size x vs s low zero_there x_there h =
     let g = given_for k start place in
     let is = scalars_more g vs id.ZERO 0 ((id.PLACE + 1) ∷ []) (x ∷ []) zero_there (scalars_more g vs (id.PLACE + 1) x [] [] x_there refl) in
     step g f p [] vs (inst op.ACCESS_CHAIN (Id id.UINT_POINTER ∷ Id id.ELEMENT ∷ Id id.BUFFER ∷ Id id.ZERO ∷ Id (id.PLACE + 1) ∷ [])) (run f (p + 1) [] ((id.ELEMENT, PointsAt (spot_of file x)) ∷ vs)) h
-    (ap (λ o. giving f p vs id.ELEMENT (as_pointer (chain_spot g id.BUFFER o))) is ∙ ap (λ o. giving f p vs id.ELEMENT (as_pointer o)) (chain_found k start place file size x s low))
+    (ap (λ o. giving (chain_trap g id.BUFFER o) f p vs id.ELEMENT (as_pointer (chain_spot g id.BUFFER o))) is ∙ ap (λ o. giving (chain_trap g id.BUFFER (Some (0 ∷ x ∷ []))) f p vs id.ELEMENT (as_pointer o)) (chain_found k start place file size x s low))
 
 -- At the write: what is asked, and what is left behind it.
 pub record Writes (g : Given) (f p : ℕ) (most file x v : ℕ) : Type 0 where

@@ -5,10 +5,11 @@ use Rattle.spv_module.specs.declared.module.Inst.{Inst}
 use Rattle.spv_module.specs.declared.module.Operand.TheVariants.{Id, Word}
 use Rattle.spv_module.specs.declared.op.TheConstants as op
 use Rattle.clv_engine.specs.declared.id.TheConstants as id
-use Rattle.clv_engine.specs.Options.{◌>>=◌, or_else}
-use Rattle.clv_engine.specs.Instructions.{Constant, said, definition_in}
+use Rattle.spv_module.specs.Options.{◌>>=◌, or_else}
+use Rattle.spv_module.specs.Instructions.{Constant, said, definition_in}
 use Rattle.clv_engine.specs.Emitted.{inst}
-use Rattle.clv_engine.specs.Invocation.{Value, Scalars, Run, run, Steps, Given, value_among, constant_by, value_at, scalar_by, scalar_at, input_of, loading, giving, extracted, as_scalar, row_by, said_at, status_by, next_by, invocation}
+use Rattle.spv_meaning.specs.declared.trap.TrapKind.TheVariants.{Unreachable}
+use Rattle.spv_meaning.specs.Invocation.{Value, Scalars, Run, run, Steps, Given, value_among, constant_by, value_at, scalar_by, scalar_at, input_of, loading, giving, extracted, as_scalar, row_by, said_at, status_by, next_by, invocation}
 use Rattle.clv_engine.proofs.NumberTests.{other_number}
 use Rattle.clv_steps.proofs.Quiet.{Quietly, stays, goes, and_then}
 
@@ -42,10 +43,10 @@ load_runs g f p r x y z vs e h =
 
 -- its first component is taken out
 pub extract_runs : (g : Given) (f p r c x : ℕ) (more : List ℕ) (vs : List (ℕ × Value)) → value_at g vs c ≡ Some (Scalars (x ∷ more)) → slice_get g.body p ≡ Some (inst op.COMPOSITE_EXTRACT (Id id.UINT ∷ Id r ∷ Id c ∷ Word 0 ∷ [])) → Quietly (invocation g) 1 (run f p [] vs) (run f (p + 1) [] ((r, Scalars (x ∷ [])) ∷ vs))
-extract_runs g f p r c x more vs e h = step g f p [] vs (inst op.COMPOSITE_EXTRACT (Id id.UINT ∷ Id r ∷ Id c ∷ Word 0 ∷ [])) (run f (p + 1) [] ((r, Scalars (x ∷ [])) ∷ vs)) h (ap (λ o. giving f p vs r (extracted o (0 ∷ []))) e)
+extract_runs g f p r c x more vs e h = step g f p [] vs (inst op.COMPOSITE_EXTRACT (Id id.UINT ∷ Id r ∷ Id c ∷ Word 0 ∷ [])) (run f (p + 1) [] ((r, Scalars (x ∷ [])) ∷ vs)) h (ap (λ o. giving Unreachable f p vs r (extracted o (0 ∷ []))) e)
 
 -- a sum of two numbers
 pub add_runs : (g : Given) (f p r a b m n : ℕ) (vs : List (ℕ × Value)) → value_at g vs a ≡ Some (Scalars (m ∷ [])) → value_at g vs b ≡ Some (Scalars (n ∷ [])) → slice_get g.body p ≡ Some (inst op.I_ADD (Id id.UINT ∷ Id r ∷ Id a ∷ Id b ∷ [])) → Quietly (invocation g) 1 (run f p [] vs) (run f (p + 1) [] ((r, Scalars (add_of 32 m n ∷ [])) ∷ vs))
 add_runs g f p r a b m n vs d e h =
     step g f p [] vs (inst op.I_ADD (Id id.UINT ∷ Id r ∷ Id a ∷ Id b ∷ [])) (run f (p + 1) [] ((r, Scalars (add_of 32 m n ∷ [])) ∷ vs)) h
-    (ap (λ o. giving f p vs r (as_scalar (scalar_by o >>= λ k. scalar_at g vs b >>= λ l. Some (add_of 32 k l)))) d ∙ ap (λ o. giving f p vs r (as_scalar (scalar_by o >>= λ l. Some (add_of 32 m l)))) e)
+    (ap (λ o. giving Unreachable f p vs r (as_scalar (scalar_by o >>= λ k. scalar_at g vs b >>= λ l. Some (add_of 32 k l)))) d ∙ ap (λ o. giving Unreachable f p vs r (as_scalar (scalar_by o >>= λ l. Some (add_of 32 m l)))) e)

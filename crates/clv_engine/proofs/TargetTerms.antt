@@ -7,9 +7,9 @@ use Rattle.spv_module.specs.declared.op.TheConstants as op
 use Rattle.clv_engine.specs.declared.form.Term.{Term}
 use Rattle.clv_engine.specs.declared.form.Term.TheVariants.{GlobalId, Literal}
 use Rattle.clv_engine.specs.declared.id.TheConstants as id
-use Rattle.clv_engine.specs.Instructions.{definition_in}
+use Rattle.spv_module.specs.Instructions.{definition_in}
 use Rattle.clv_engine.specs.Emitted.{inst, global_id, term, value, terms, sums_from, sum_from, sum}
-use Rattle.clv_engine.specs.Invocation.{Value, Scalars, run, Given, value_among, value_at, input_of, invocation}
+use Rattle.spv_meaning.specs.Invocation.{Value, Scalars, run, Given, value_among, value_at, input_of, invocation}
 use Rattle.clv_engine.proofs.NumberTests.{other_number}
 use Rattle.clv_steps.proofs.Quiet.{Quietly, stays, and_then}
 use Rattle.clv_engine.proofs.Places.{Lies}

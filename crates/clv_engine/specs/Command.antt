@@ -9,7 +9,7 @@ use Rattle.clv_io.specs.Files.{FilesState, IsSameKind, HoldsTheSame, IsTooLarge,
 use Rattle.clv_io.specs.Sink.{SinkState, Gains, GainsFront}
 use Rattle.clv_engine.specs.declared.form.Kernel.{Kernel}
 use Rattle.clv_engine.specs.FirstForm.{IsIn, IsOut}
-use Rattle.clv_engine.specs.Reflection.{ReflectionAgrees}
+use Rattle.clv_engine.specs.KernelRows.{ReflectionAgrees}
 use Rattle.clv_engine.specs.Interface.{InterfaceAgrees}
 use Rattle.clv_engine.specs.Promises.{ItemSimulation}
 use Rattle.clv_engine.specs.LaunchWorlds.{WorldSimulation}

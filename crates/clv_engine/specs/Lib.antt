@@ -1,16 +1,10 @@
-pub mod Binding
 pub mod Command
 pub mod Emitted
-pub mod Events
 pub mod FirstForm
 pub mod Forming
-pub mod Instructions
 pub mod Interface
-pub mod Invocation
-pub mod Launch
+pub mod KernelRows
 pub mod LaunchWorlds
 pub mod Lexing
-pub mod Options
 pub mod Promises
-pub mod Reflection
 pub mod SourceItem

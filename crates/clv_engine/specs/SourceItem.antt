@@ -5,7 +5,7 @@ use Rattle.clv_steps.specs.Machines.{Status, Runs, Asks, Ends, Fails, Machine}
 use Rattle.clv_engine.specs.declared.form.Kernel.{Kernel}
 use Rattle.clv_engine.specs.declared.form.Term.{Term}
 use Rattle.clv_engine.specs.declared.form.Term.TheVariants.{GlobalId, Literal}
-use Rattle.clv_engine.specs.Events.{Write, Asked}
+use Rattle.spv_meaning.specs.Events.{Write, Asked}
 
 -- An expression with its conversions. Numbers are of 32 bits; a decimal literal is an int, and get_global_id gives a uint.
 pub data Expr : Type 0 where

@@ -37,9 +37,12 @@ global_size_of l d = if nat_lt d l.dims then along d (sizes_of l.global) else 1
 abbrev pub local_size_of : LaunchSizes → ℕ → ℕ
 local_size_of l d = if nat_lt d l.dims then along d (sizes_of l.local) else 1
 
--- get_global_id(d)
+-- get_global_id(d), for a work dimension and the sizes of a grid
+abbrev pub global_id_in : ℕ → Sizes → ℕ → ℕ → ℕ
+global_id_in dims global item d = if nat_lt d dims then along d (place_in global item) else 0
+
 abbrev pub global_id_of : LaunchSizes → ℕ → ℕ → ℕ
-global_id_of l item d = if nat_lt d l.dims then along d (place_of l item) else 0
+global_id_of l item d = global_id_in l.dims (sizes_of l.global) item d
 
 -- get_num_groups(d)
 abbrev pub num_groups_of : LaunchSizes → ℕ → ℕ

@@ -1,2 +1,5 @@
 pub mod Grammar
+pub mod Instructions
+pub mod Interface
+pub mod Options
 pub mod Words

@@ -4,31 +4,15 @@ use Rattle.std.specs.List.{list_all}
 use Rattle.std.specs.Str.{bytes_eq}
 use Rattle.spv_module.specs.declared.module.Inst.{Inst}
 use Rattle.spv_module.specs.declared.enumerant.storage_class.TheConstants as storage_class
-use Rattle.clv_engine.specs.declared.form.Kernel.{Kernel}
-use Rattle.clv_engine.specs.Options.{◌>>=◌, only_if}
-use Rattle.clv_engine.specs.Launch.{Sizes}
-use Rattle.clv_engine.specs.Instructions.{Said, String, Import, Extended, IntType, Constant, Function, said, definition_in}
+use Rattle.spv_module.specs.Options.{◌>>=◌, only_if}
+use Rattle.spv_reflect.specs.declared.rows.ArgKindRow.{ArgKindRow}
+use Rattle.spv_reflect.specs.declared.rows.ArgKindRow.TheVariants.{Buffer}
+use Rattle.spv_reflect.specs.declared.rows.ArgRow.{ArgRow}
+use Rattle.spv_reflect.specs.declared.rows.KernelRow.{KernelRow}
+use Rattle.spv_reflect.specs.declared.rows.Reflection.{Reflection}
+use Rattle.spv_module.specs.Instructions.{Said, String, Import, Extended, IntType, Constant, Function, said, definition_in}
 use Rattle.spv_module.specs.declared.enumerant.execution_model.TheConstants as execution_model
-use Rattle.clv_engine.specs.Interface.{IsBufferVariable, HasGroupSize, Entry, is_bound_at, variables_in, functions_in, entry_points_in}
-
--- An argument that is a buffer is the variable of this descriptor set and binding.
-pub data ArgumentRowKind : Type 0 where
-  BufferRow : (set binding : ℕ) → ArgumentRowKind
-
-pub record ArgumentRow : Type 0 where
-  pub name : List ℕ
-  pub kind : ArgumentRowKind
-
--- a kernel: the id of its function, its name and its arguments in order
-pub record KernelRow : Type 0 where
-  pub function : ℕ
-  pub name : List ℕ
-  pub arguments : List ArgumentRow
-
--- the kernels, and the SpecIds of the constants that a group's size is bound to
-pub record Reflection : Type 0 where
-  pub kernels : List KernelRow
-  pub sizes : Option Sizes
+use Rattle.spv_module.specs.Interface.{IsBufferVariable, HasGroupSize, Entry, is_bound_at, variables_in, functions_in, entry_points_in}
 
 -- A reflection line, by the id of its result and what its operands say: a kernel's function and name (1), an argument's name (2), a buffer argument (3: its kernel's line, its ordinal, its set and binding, its name's line), and the SpecIds of the sizes (12).
 pub data Line : Type 0 where
@@ -113,24 +97,24 @@ name_in (NameLine r name ∷ ls) id = if nat_eq r id then Some name else name_in
 name_in (_ ∷ ls) id = name_in ls id
 
 -- the arguments of a kernel's line from the nth on, whose ordinals count up
-abbrev pub arguments_in : List Line → ℕ → ℕ → List Line → Option (List ArgumentRow)
+abbrev pub arguments_in : List Line → ℕ → ℕ → List Line → Option (List ArgRow)
 arguments_in all kernel n [] = Some []
 arguments_in all kernel n (BufferLine r k ordinal set binding info ∷ ls) =
-    if nat_eq k kernel then (only_if (nat_eq ordinal n) info >>= λ i. name_in all i >>= λ name. arguments_in all kernel (n + 1) ls >>= λ rows. Some (record { name = name; kind = BufferRow set binding } ∷ rows)) else arguments_in all kernel n ls
+    if nat_eq k kernel then (only_if (nat_eq ordinal n) info >>= λ i. name_in all i >>= λ name. arguments_in all kernel (n + 1) ls >>= λ rows. Some (record { name = name; kind = Buffer set binding } ∷ rows)) else arguments_in all kernel n ls
 arguments_in all kernel n (_ ∷ ls) = arguments_in all kernel n ls
 
 abbrev pub kernels_in : List Line → List Line → Option (List KernelRow)
 kernels_in all [] = Some []
-kernels_in all (KernelLine r function name ∷ ls) = arguments_in all r 0 all >>= λ arguments. kernels_in all ls >>= λ rows. Some (record { function = function; name = name; arguments = arguments } ∷ rows)
+kernels_in all (KernelLine r function name ∷ ls) = arguments_in all r 0 all >>= λ args. kernels_in all ls >>= λ rows. Some (record { function = function; name = name; args = args; required = None } ∷ rows)
 kernels_in all (_ ∷ ls) = kernels_in all ls
 
-abbrev pub sizes_in : List Line → Option Sizes
+abbrev pub sizes_in : List Line → Option (List ℕ)
 sizes_in [] = None
-sizes_in (SizesLine r x y z ∷ ls) = Some (record { x = x; y = y; z = z })
+sizes_in (SizesLine r x y z ∷ ls) = Some (x ∷ y ∷ z ∷ [])
 sizes_in (_ ∷ ls) = sizes_in ls
 
 abbrev pub rows_by : List Line → Option Reflection
-rows_by lines = only_if (list_all is_right lines) lines >>= λ all. kernels_in all all >>= λ kernels. Some (record { kernels = kernels; sizes = sizes_in all })
+rows_by lines = only_if (list_all is_right lines) lines >>= λ all. kernels_in all all >>= λ kernels. Some (record { kernels = kernels; sizes = sizes_in all; dim = None; constants = None })
 
 -- The rows of a module. None where a line has a number or operands that it can't have (F1, F2), or ordinals don't count up (F4).
 abbrev pub rows_of : List Inst → Option Reflection
@@ -145,22 +129,8 @@ pub record KeepsReflectionRules (body : List Inst) (r : Reflection) : Type 0 whe
   pub entries : (row : KernelRow) → Contains r.kernels row → Contains (entry_points_in body) (record { model = execution_model.GL_COMPUTE; function = row.function; name = row.name })
   pub one_row : (e : Entry) → Contains (entry_points_in body) e → count_by (is_row_of e.function) r.kernels ≡ 1
   -- F5: each pair is that of a buffer variable; no two rows of a kernel have one pair; each storage buffer has a row
-  pub variables : (row : KernelRow) (a : ArgumentRow) (set binding : ℕ) → Contains r.kernels row → Contains row.arguments a → a.kind ≡ BufferRow set binding → (v element stride : ℕ) × (is_bound_at body v set binding ≡ true) × IsBufferVariable body v element stride
-  pub pairs : (row : KernelRow) (m n : ℕ) (a b : ArgumentRow) → Contains r.kernels row → slice_get row.arguments m ≡ Some a → slice_get row.arguments n ≡ Some b → a.kind ≡ b.kind → m ≡ n
-  pub named : (v : ℕ) → Contains (variables_in body) (v, storage_class.STORAGE_BUFFER) → (row : KernelRow) × (a : ArgumentRow) × (set : ℕ) × (binding : ℕ) × Contains r.kernels row × Contains row.arguments a × (a.kind ≡ BufferRow set binding) × (is_bound_at body v set binding ≡ true)
+  pub variables : (row : KernelRow) (a : ArgRow) (set binding : ℕ) → Contains r.kernels row → Contains row.args a → a.kind ≡ Buffer set binding → (v element stride : ℕ) × (is_bound_at body v set binding ≡ true) × IsBufferVariable body v element stride
+  pub pairs : (row : KernelRow) (m n : ℕ) (a b : ArgRow) → Contains r.kernels row → slice_get row.args m ≡ Some a → slice_get row.args n ≡ Some b → a.kind ≡ b.kind → m ≡ n
+  pub named : (v : ℕ) → Contains (variables_in body) (v, storage_class.STORAGE_BUFFER) → (row : KernelRow) × (a : ArgRow) × (set : ℕ) × (binding : ℕ) × Contains r.kernels row × Contains row.args a × (a.kind ≡ Buffer set binding) × (is_bound_at body v set binding ≡ true)
   -- F7: the sizes are there, as the module has them
-  pub sizes : (r.sizes ≡ Some (record { x = 0; y = 1; z = 2 })) × HasGroupSize body
-
--- The rows of the kernel, whose function has this id.
-abbrev pub reflection_of : Kernel → ℕ → Reflection
-reflection_of k function = record {
-  kernels = record { function = function; name = k.name ∷ []; arguments = record { name = k.argument ∷ []; kind = BufferRow 0 0 } ∷ [] } ∷ [];
-  sizes = Some (record { x = 0; y = 1; z = 2 });
-}
-
--- Reflection agrees: the module has one function, its rows are those of the kernel with this function, and no rule on rows is broken.
-pub record ReflectionAgrees (body : List Inst) (k : Kernel) : Type 0 where
-  pub function : ℕ
-  pub functions : functions_in body ≡ function ∷ []
-  pub rows : rows_of body ≡ Some (reflection_of k function)
-  pub rules : KeepsReflectionRules body (reflection_of k function)
+  pub sizes : (r.sizes ≡ Some (0 ∷ 1 ∷ 2 ∷ [])) × HasGroupSize body

@@ -1,6 +1,6 @@
 -- The instructions of a module, read by what they say (SPIR-V 1.3, section 3.32).
 use Rattle.std.specs.Prelude.{ℕ, Bool, false, ◌==◌, ◌&&◌, if◌then◌else◌, List, [], ◌∷◌, Option, Some, None, nat_eq}
-use Rattle.clv_engine.specs.Options.{or_else}
+use Rattle.spv_module.specs.Options.{or_else}
 use Rattle.spv_module.specs.declared.module.Inst.{Inst}
 use Rattle.spv_module.specs.declared.module.Operand.{Operand}
 use Rattle.spv_module.specs.declared.module.Operand.TheVariants.{Id, Word, Str}
@@ -9,6 +9,7 @@ use Rattle.spv_module.specs.declared.op.TheConstants as op
 -- What an instruction says. Ids and numbers stand in the order of its operands; a result's id is `r`, its type's `t`.
 pub data Said : Type 0 where
   Capability : (capability : ℕ) → Said
+  Extension : (name : List ℕ) → Said
   MemoryModel : (addressing memory : ℕ) → Said
   String : (r : ℕ) (text : List ℕ) → Said
   Import : (r : ℕ) (name : List ℕ) → Said
@@ -54,6 +55,10 @@ words (_ ∷ os) = words os
 abbrev pub capability : List Operand → Said
 capability (Word c ∷ []) = Capability c
 capability _ = Other
+
+abbrev pub extension : List Operand → Said
+extension (Str name ∷ []) = Extension name
+extension _ = Other
 
 abbrev pub memory_model : List Operand → Said
 memory_model (Word addressing ∷ Word memory ∷ []) = MemoryModel addressing memory
@@ -175,7 +180,7 @@ readings =
     ∷ (op.TYPE_POINTER, pointer_type) ∷ (op.TYPE_FUNCTION, function_type) ∷ (op.CONSTANT, constant) ∷ (op.SPEC_CONSTANT, spec_constant) ∷ (op.SPEC_CONSTANT_COMPOSITE, spec_composite)
     ∷ (op.FUNCTION, function) ∷ (op.FUNCTION_END, function_end) ∷ (op.VARIABLE, variable) ∷ (op.LOAD, load) ∷ (op.STORE, store)
     ∷ (op.ACCESS_CHAIN, access_chain) ∷ (op.DECORATE, decorate) ∷ (op.MEMBER_DECORATE, member_decorate) ∷ (op.COMPOSITE_EXTRACT, extract) ∷ (op.I_ADD, add)
-    ∷ (op.LABEL, label) ∷ (op.RETURN, return) ∷ (op.CAPABILITY, capability) ∷ (op.MEMORY_MODEL, memory_model) ∷ []
+    ∷ (op.LABEL, label) ∷ (op.RETURN, return) ∷ (op.CAPABILITY, capability) ∷ (op.EXTENSION, extension) ∷ (op.MEMORY_MODEL, memory_model) ∷ []
 
 abbrev pub read_by : List (ℕ × (List Operand → Said)) → ℕ → List Operand → Said
 read_by [] code os = Other

@@ -6,12 +6,15 @@ use Rattle.spv_module.specs.declared.module.Inst.{Inst}
 use Rattle.spv_module.specs.declared.enumerant.storage_class.TheConstants as storage_class
 use Rattle.spv_module.specs.declared.enumerant.decoration.TheConstants as decoration
 use Rattle.spv_module.specs.declared.enumerant.built_in.TheConstants as built_in
-use Rattle.clv_engine.specs.Options.{◌>>=◌, or_else, only_if}
-use Rattle.clv_engine.specs.Events.{Spot, Event, Write, Asked}
-use Rattle.clv_engine.specs.Launch.{Sizes}
-use Rattle.clv_engine.specs.Binding.{Bound, Specialised, Start, stride_by, pointee_by}
-use Rattle.clv_engine.specs.Interface.{is_bound_at, is_number}
-use Rattle.clv_engine.specs.Instructions.{Said, IntType, RuntimeArray, StructType, Constant, SpecConstant, Function, Variable, Load, Store, AccessChain, Extract, Add, Label, Return, said, definition_in, decoration_in, member_decoration_in}
+use Rattle.spv_module.specs.Options.{◌>>=◌, or_else, only_if, or_default}
+use Rattle.launch_text.specs.WorkItems.{Sizes, place_in}
+use Rattle.launch_text.specs.Rules.{size_of}
+use Rattle.spv_meaning.specs.declared.trap.TrapKind.{TrapKind}
+use Rattle.spv_meaning.specs.declared.trap.TrapKind.TheVariants.{Range, Unreachable}
+use Rattle.spv_meaning.specs.Events.{Spot, Event, Write, Asked}
+use Rattle.spv_meaning.specs.Start.{Bound, Specialised, Start}
+use Rattle.spv_module.specs.Interface.{is_bound_at, is_number, pointee_by, number_of}
+use Rattle.spv_module.specs.Instructions.{Said, IntType, RuntimeArray, StructType, Constant, SpecConstant, Function, Variable, Load, Store, AccessChain, Extract, Add, Label, Return, said, definition_in, decoration_in, member_decoration_in}
 
 -- Numbers in order, one for each scalar of a type, or a pointer to one scalar of a buffer.
 pub data Value : Type 0 where
@@ -27,7 +30,7 @@ pub data Run : Type 0 where
 pub data Row : Type 0 where
   Steps : (to : ℕ → Run) → Row
   Questions : (event : Event) (to : ℕ → Run) → Row
-  Traps : Row
+  Traps : (kind : TrapKind) → Row
 
 -- What an invocation is given: the module's instructions, where the launch begins, and its place in the grid.
 pub record Given : Type 0 where
@@ -42,10 +45,6 @@ value_among (v ∷ vs) id = if nat_eq v.0 id then Some v.1 else value_among vs i
 abbrev pub specialised_to : List Specialised → Option (List ℕ) → Option ℕ
 specialised_to (s ∷ ss) (Some (id ∷ [])) = if nat_eq s.id id then Some s.value else specialised_to ss (Some (id ∷ []))
 specialised_to _ _ = None
-
-abbrev pub or_default : Option ℕ → ℕ → ℕ
-or_default (Some n) d = n
-or_default None d = d
 
 -- the value of a constant
 abbrev pub constant_by : Given → Option Said → Option Value
@@ -96,8 +95,8 @@ element_at size element offset i (Some stride) = if nat_lt i ((size - offset) / 
 element_at size element offset i None = NoWay
 
 abbrev pub enter_by : List Inst → ℕ → ℕ → ℕ → Option Said → Reached
-enter_by body size offset i (Some (StructType r members)) = member_at (slice_get members i) (stride_by (member_decoration_in body r i decoration.OFFSET)) offset
-enter_by body size offset i (Some (RuntimeArray r element)) = element_at size element offset i (stride_by (decoration_in body r decoration.ARRAY_STRIDE))
+enter_by body size offset i (Some (StructType r members)) = member_at (slice_get members i) (number_of (member_decoration_in body r i decoration.OFFSET)) offset
+enter_by body size offset i (Some (RuntimeArray r element)) = element_at size element offset i (number_of (decoration_in body r decoration.ARRAY_STRIDE))
 enter_by body size offset i _ = NoWay
 
 abbrev pub reached : List Inst → ℕ → Reached → List ℕ → Reached
@@ -114,27 +113,36 @@ abbrev pub spot_by : List Inst → ℕ → Reached → Option Spot
 spot_by body buffer (Inside type offset) = width_by (definition_in body type) >>= λ bits. Some (record { buffer = buffer; offset = offset; bits = bits })
 spot_by body buffer _ = None
 
-abbrev pub size_of : List (List ℕ) → ℕ → Option ℕ
-size_of buffers file = slice_get buffers file >>= λ bytes. Some (length bytes)
+-- where an access chain has come to, by the numbers of its indices, and in which buffer
+abbrev pub chain_reached : Given → ℕ → Option (List ℕ) → Option (ℕ × Reached)
+chain_reached g base indices =
+    buffer_among g.body base g.start.bound >>= λ buffer. size_of g.start.buffers buffer >>= λ size. pointee_by (definition_in g.body base) >>= λ pointer. pointee_by (definition_in g.body pointer) >>= λ block. indices >>= λ is. Some (buffer, reached g.body size (Inside block 0) is)
 
 abbrev pub chain_spot : Given → ℕ → Option (List ℕ) → Option Spot
-chain_spot g base indices =
-    buffer_among g.body base g.start.bound >>= λ buffer. size_of g.start.buffers buffer >>= λ size. pointee_by (definition_in g.body base) >>= λ pointer. pointee_by (definition_in g.body pointer) >>= λ block. indices >>= λ is. spot_by g.body buffer (reached g.body size (Inside block 0) is)
+chain_spot g base indices = chain_reached g base indices >>= λ c. spot_by g.body c.0 c.1
+
+-- Past an array's end it traps by its range.
+abbrev pub trap_by : Option (ℕ × Reached) → TrapKind
+trap_by (Some (buffer, Beyond)) = Range
+trap_by _ = Unreachable
+
+abbrev pub chain_trap : Given → ℕ → Option (List ℕ) → TrapKind
+chain_trap g base indices = trap_by (chain_reached g base indices)
 
 -- a step that gives an id its value; where there is none the invocation traps
-abbrev pub giving : ℕ → ℕ → List (ℕ × Value) → ℕ → Option Value → Row
-giving function place values r (Some v) = Steps (λ _. run function (place + 1) [] ((r, v) ∷ values))
-giving function place values r None = Traps
+abbrev pub giving : TrapKind → ℕ → ℕ → List (ℕ × Value) → ℕ → Option Value → Row
+giving kind function place values r (Some v) = Steps (λ _. run function (place + 1) [] ((r, v) ∷ values))
+giving kind function place values r None = Traps kind
 
 -- One scalar is moved in a step; the last gives the result.
 abbrev pub loading : ℕ → ℕ → List ℕ → List (ℕ × Value) → ℕ → Option (List ℕ) → Row
 loading function place part values r (Some ns) =
-    if nat_lt (length part + 1) (length ns) then Steps (λ _. run function place (part ++ slice_index ns (length part) ∷ []) values) else giving function place values r (Some (Scalars (part ++ slice_index ns (length part) ∷ [])))
-loading function place part values r None = Traps
+    if nat_lt (length part + 1) (length ns) then Steps (λ _. run function place (part ++ slice_index ns (length part) ∷ []) values) else giving Unreachable function place values r (Some (Scalars (part ++ slice_index ns (length part) ∷ [])))
+loading function place part values r None = Traps Unreachable
 
 abbrev pub storing : ℕ → ℕ → List (ℕ × Value) → Option Value → Option ℕ → Row
 storing function place values (Some (PointsAt at)) (Some n) = Questions (Write at n) (λ _. run function (place + 1) [] values)
-storing function place values _ _ = Traps
+storing function place values _ _ = Traps Unreachable
 
 abbrev pub extracted : Option Value → List ℕ → Option Value
 extracted (Some (Scalars ns)) (i ∷ []) = slice_get ns i >>= λ n. Some (Scalars (n ∷ []))
@@ -148,16 +156,16 @@ abbrev pub as_pointer : Option Spot → Option Value
 as_pointer (Some at) = Some (PointsAt at)
 as_pointer None = None
 
--- One row for each instruction. The values of a block are lost at the next label.
+-- One row for each instruction. The values of a block are lost at the next label. What has no row here, or an operand that has no value, is a trap as where control can't come.
 abbrev pub row_by : Given → ℕ → ℕ → List ℕ → List (ℕ × Value) → Option Said → Row
 row_by g function place part values (Some (Label r)) = Steps (λ _. run function (place + 1) [] [])
 row_by g function place part values (Some (Load t r pointer)) = loading function place part values r (input_of g (definition_in g.body pointer))
-row_by g function place part values (Some (Extract t r composite at)) = giving function place values r (extracted (value_at g values composite) at)
-row_by g function place part values (Some (Add t r a b)) = giving function place values r (as_scalar (scalar_at g values a >>= λ m. scalar_at g values b >>= λ n. Some (add_of 32 m n)))
-row_by g function place part values (Some (AccessChain t r base indices)) = giving function place values r (as_pointer (chain_spot g base (scalars_at g values indices)))
+row_by g function place part values (Some (Extract t r composite at)) = giving Unreachable function place values r (extracted (value_at g values composite) at)
+row_by g function place part values (Some (Add t r a b)) = giving Unreachable function place values r (as_scalar (scalar_at g values a >>= λ m. scalar_at g values b >>= λ n. Some (add_of 32 m n)))
+row_by g function place part values (Some (AccessChain t r base indices)) = giving (chain_trap g base (scalars_at g values indices)) function place values r (as_pointer (chain_spot g base (scalars_at g values indices)))
 row_by g function place part values (Some (Store pointer value)) = storing function place values (value_at g values pointer) (scalar_at g values value)
 row_by g function place part values (Some Return) = Steps (λ _. over)
-row_by g function place part values _ = Traps
+row_by g function place part values _ = Traps Unreachable
 
 abbrev pub said_at : List Inst → ℕ → Option Said
 said_at body place = slice_get body place >>= λ i. Some (said i)
@@ -165,12 +173,12 @@ said_at body place = slice_get body place >>= λ i. Some (said i)
 abbrev pub status_by : ℕ → Row → Status Asked
 status_by function (Steps to) = Runs
 status_by function (Questions event to) = Asks (record { function = function; event = event })
-status_by function Traps = Fails
+status_by function (Traps kind) = Fails
 
 abbrev pub next_by : ℕ → Row → Run
 next_by x (Steps to) = to x
 next_by x (Questions event to) = to x
-next_by x Traps = over
+next_by x (Traps kind) = over
 
 abbrev pub status : Given → Run → Status Asked
 status g (run function place part values) = status_by function (row_by g function place part values (said_at g.body place))
@@ -194,3 +202,16 @@ place_after (i ∷ is) id = if is_function (said i) id then 1 else (1 + place_af
 
 abbrev pub first_run : Given → Run
 first_run g = run g.start.function (place_after g.body g.start.function) [] []
+
+-- why an invocation that fails does
+abbrev pub kind_by : Row → Option TrapKind
+kind_by (Traps kind) = Some kind
+kind_by _ = None
+
+abbrev pub trap_of : Given → Run → Option TrapKind
+trap_of g (run function place part values) = kind_by (row_by g function place part values (said_at g.body place))
+trap_of g over = None
+
+-- the invocation of an item
+abbrev pub given_of : List Inst → Start → ℕ → Given
+given_of body start item = record { body = body; start = start; place = place_in start.global item }

@@ -23,3 +23,7 @@ is_there None = false
 abbrev pub for_each : {A B : Type 0} → (A → Option B) → List A → Option (List B)
 for_each f [] = Some []
 for_each f (a ∷ as_) = f a >>= λ b. for_each f as_ >>= λ bs. Some (b ∷ bs)
+
+abbrev pub or_default : {A : Type 0} → Option A → A → A
+or_default (Some a) d = a
+or_default None d = d

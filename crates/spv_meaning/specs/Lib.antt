@@ -1,0 +1,4 @@
+pub mod Events
+pub mod Invocation
+pub mod Start
+pub mod Worlds
