@@ -1,4 +1,6 @@
+pub mod Cells
 pub mod Events
 pub mod Invocation
+pub mod Schedule
 pub mod Start
 pub mod Worlds

@@ -45,3 +45,5 @@ length-body_words-append xs ys = ap length (body_words-append xs ys) ∙ length-
 
 pub length-module_words : (m : Module) → length (module_words m) ≡ 5 + length (body_words m.body)
 length-module_words m = omega arith
+
+pub ruleset string_lengths = (length-string_words)

@@ -1,9 +1,10 @@
 -- What a module shows to those who launch it: its entry points, and the variables that a launch is bound to, with their types and decorations (SPIR-V 1.3, 3.20; Vulkan, 15.6).
-use Rattle.std.specs.Prelude.{◌≡◌, ℕ, Bool, false, ◌&&◌, nat_eq, List, [], ◌∷◌, Option, Some, None}
+use Rattle.std.specs.Prelude.{◌≡◌, ℕ, Bool, false, ◌&&◌, nat_eq, ◌+◌, List, [], ◌∷◌, length, take, Option, Some, None}
 use Rattle.spv_module.specs.declared.module.Inst.{Inst}
 use Rattle.spv_module.specs.declared.enumerant.storage_class.TheConstants as storage_class
 use Rattle.spv_module.specs.declared.enumerant.decoration.TheConstants as decoration
 use Rattle.spv_module.specs.declared.enumerant.built_in.TheConstants as built_in
+use Rattle.spv_module.specs.Words.{body_words}
 use Rattle.spv_module.specs.Instructions.{Said, Capability, MemoryModel, EntryPoint, ExecutionMode, IntType, VectorType, RuntimeArray, StructType, PointerType, SpecConstant, SpecComposite, Function, Variable, said, definition_in, decoration_in, member_decoration_in}
 
 -- the decoration stands there with this one number
@@ -120,3 +121,7 @@ pointee_by _ = None
 abbrev pub number_of : Option (List ℕ) → Option ℕ
 number_of (Some (n ∷ [])) = Some n
 number_of _ = None
+
+-- the index of the first word of the instruction at a place (SPIR-V 2.3)
+abbrev pub word_at : List Inst → ℕ → ℕ
+word_at body place = 5 + length (body_words (take place body))

@@ -5,8 +5,11 @@
 
 pub mod enumerant;
 pub mod forms;
+pub mod lookup;
 pub mod module;
 pub mod op;
+pub mod reading;
+pub mod size;
 pub mod table;
 
 pub use forms::{Form, Last, Slot};
