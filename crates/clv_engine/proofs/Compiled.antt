@@ -10,6 +10,7 @@ use Rattle.clv_engine.specs.Command.{IsGood, IsCompiled}
 use Rattle.clv_engine.proofs.FactsSpelled.{is_spelled, small}
 use Rattle.clv_engine.proofs.FactsReflection.{reflection_agrees}
 use Rattle.clv_engine.proofs.FactsInterface.{interface_agrees}
+use Rattle.clv_engine.proofs.BindingFacts.{binding_agrees}
 use Rattle.clv_engine.proofs.Simulation.{item_simulation, world_simulation}
 
 pub few_terms : (text : List ℕ) (k : Kernel) → IsIn text k → length k.terms ≤ 100
@@ -24,6 +25,7 @@ good text k i = record {
   accepted = i;
   reflection = reflection_agrees k i.kernel;
   interface = interface_agrees k i.kernel;
+  binding = binding_agrees k;
   items = item_simulation k i.kernel;
   worlds = world_simulation k i.kernel;
   bound = (small k i.kernel).1;

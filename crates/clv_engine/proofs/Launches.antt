@@ -78,10 +78,10 @@ global_id_within k l n f =
     omega (arith, e, some)
 
 -- the row of the kernel and of its argument
-abbrev argument_row : Kernel → ArgRow
+abbrev pub argument_row : Kernel → ArgRow
 argument_row k = record { name = k.argument ∷ []; kind = BufferRow 0 0 }
 
-abbrev kernel_row : Kernel → KernelRow
+abbrev pub kernel_row : Kernel → KernelRow
 kernel_row k = record { function = id.MAIN; name = k.name ∷ []; args = argument_row k ∷ []; required = None }
 
 abbrev pub start_for : Kernel → LoadedLaunch → Start
@@ -97,7 +97,7 @@ parameter_found k = ap (λ v. v >>= λ v. stride_of (body_of k) v >>= λ stride.
 name_found : (k : Kernel) (l : LoadedLaunch) → l.kernel ≡ k.name ∷ [] → kernel_among l.kernel (kernel_row k ∷ []) ≡ Some (kernel_row k)
 name_found k l e = ap (λ b. cond b (Some (kernel_row k)) None) ((bytes_eq-Decides (k.name ∷ []) l.kernel).1 (sym e))
 
-parameters_found : (k : Kernel) → for_each (parameter_of (body_of k)) (argument_row k ∷ []) ≡ Some (GlobalPointer 4 ∷ [])
+pub parameters_found : (k : Kernel) → for_each (parameter_of (body_of k)) (argument_row k ∷ []) ≡ Some (GlobalPointer 4 ∷ [])
 parameters_found k = ap (λ (o : Option Parameter). o >>= λ b. Some (b ∷ [])) (parameter_found k)
 
 -- what each step of the binding makes of the one before

@@ -1,3 +1,4 @@
+pub mod BindingFacts
 pub mod CommandWords
 pub mod Compiled
 pub mod Decided

@@ -135,7 +135,6 @@ item_follows k l start n kernel f b = subst (λ at. ItemFollows k l at n) (start
 
 pub item_simulation : (k : Kernel) → IsKernel k → ItemSimulation (body_of k) k
 item_simulation k kernel = record {
-  binds = λ l f. (start_for k l, binds_found k l f);
   serves = λ l start n f b low. moments (source_item (surroundings_of l n)) (invocation (given_of (body_of k) start n)) (in_function start.function) (worth 256) 256 256 (first_state k) (first_run (given_of (body_of k) start n)) worth_most (omega arith) (item_follows k l start n kernel f b);
 }
 

@@ -11,7 +11,7 @@ use Rattle.clv_engine.specs.declared.form.Kernel.{Kernel}
 use Rattle.clv_engine.specs.FirstForm.{IsIn, IsOut}
 use Rattle.clv_engine.specs.KernelRows.{ReflectionAgrees}
 use Rattle.clv_engine.specs.Interface.{InterfaceAgrees}
-use Rattle.clv_engine.specs.Promises.{ItemSimulation}
+use Rattle.clv_engine.specs.Promises.{BindingAgrees, ItemSimulation}
 use Rattle.clv_engine.specs.LaunchWorlds.{WorldSimulation}
 
 -- A word that names a file is not empty and does not begin with `-`.
@@ -25,12 +25,13 @@ pub record IsCompile (words : List (List ℕ)) (source target : List ℕ) : Type
   pub source_word : is_file_word source ≡ true
   pub target_word : is_file_word target ≡ true
 
--- A module that is good for a text: the text is accepted as a kernel, the reflection and the interface are the kernel's, and the module serves each of its work-items, and all of them together in any order. Two bounds.
+-- A module that is good for a text: the text is accepted as a kernel, the reflection and the interface are the kernel's, launches bind to it as they fit the kernel, and the module serves each of its work-items, and all of them together in any order. Two bounds.
 pub record IsGood (text : List ℕ) (m : Module) : Type 0 where
   pub kernel : Kernel
   pub accepted : IsIn text kernel
   pub reflection : ReflectionAgrees m.body kernel
   pub interface : InterfaceAgrees m.body kernel
+  pub binding : BindingAgrees m.body kernel
   pub items : ItemSimulation m.body kernel
   pub worlds : WorldSimulation m.body kernel
   pub bound : m.bound ≤ 4194303

@@ -1,15 +1,16 @@
 -- What the compiler promises of a module that it makes for a text.
-use Rattle.std.specs.Prelude.{◌≡◌, ℕ, ◌<◌, List, [], ◌∷◌}
+use Rattle.std.specs.Prelude.{◌≡◌, ℕ, ◌<◌, List, [], ◌∷◌, Option, Some, None, if◌then◌else◌}
+use Rattle.std.specs.Str.{bytes_eq}
 use Rattle.spv_module.specs.declared.module.Inst.{Inst}
 use Rattle.clv_steps.specs.Runs.{Simulates}
 use Rattle.clv_engine.specs.declared.form.Kernel.{Kernel}
 use Rattle.launch_text.specs.WorkItems.{volume, global_id_in}
-use Rattle.launch_text.specs.Rules.{LoadedLaunch, GlobalPointer, IsLaunch, KeepsRules, buffer_given, size_of}
+use Rattle.launch_text.specs.Rules.{LoadedLaunch, Parameter, GlobalPointer, IsLaunch, KeepsRules, BrokenRule, IsLeastBroken, buffer_given, size_of}
 use Rattle.spv_module.specs.Options.{or_default}
 use Rattle.spv_meaning.specs.Events.{Asked}
 use Rattle.spv_meaning.specs.Start.{Start}
 use Rattle.spv_meaning.specs.Invocation.{invocation, first_run, given_of}
-use Rattle.vk_bind.specs.Binding.{BindsTo}
+use Rattle.vk_bind.specs.Binding.{BindsTo, takes_in}
 use Rattle.clv_engine.specs.SourceItem.{Surroundings, source_item, first_state}
 
 -- A launch fits the kernel: it names it (L10), and keeps the rules for what it takes, a pointer to elements of four bytes.
@@ -17,6 +18,10 @@ pub record Fits (k : Kernel) (l : LoadedLaunch) : Type 0 where
   pub launch : IsLaunch l
   pub kernel : l.kernel ≡ k.name ∷ []
   pub rules : KeepsRules (GlobalPointer 4 ∷ []) l
+
+-- what the kernel of a name takes; none where it has another name
+abbrev pub takes_of : Kernel → List ℕ → Option (List Parameter)
+takes_of k name = if bytes_eq (k.name ∷ []) name then Some (GlobalPointer 4 ∷ []) else None
 
 -- what an item of the launch sees
 abbrev pub surroundings_of : LoadedLaunch → ℕ → Surroundings
@@ -34,7 +39,13 @@ ItemServes body k l start item =
     let given = given_of body start item in
     Simulates (source_item (surroundings_of l item)) (invocation given) (in_function start.function) 256 (first_state k) (first_run given)
 
--- Item simulation: each launch that fits the kernel binds to the module, and the module serves each of its items.
-pub record ItemSimulation (body : List Inst) (k : Kernel) : Type 0 where
+-- Binding agrees: a launch binds to the module exactly where it fits the kernel, and else breaks there the rule that it breaks for the kernel, at the same argument.
+pub record BindingAgrees (body : List Inst) (k : Kernel) : Type 0 where
   pub binds : (l : LoadedLaunch) → Fits k l → (start : Start) × BindsTo body l start
+  pub fits : (l : LoadedLaunch) (start : Start) → IsLaunch l → BindsTo body l start → Fits k l
+  pub breaks : (l : LoadedLaunch) (r : BrokenRule) → IsLeastBroken l (takes_of k l.kernel) r → IsLeastBroken l (takes_in body l.kernel) r
+  pub is_broken : (l : LoadedLaunch) (r : BrokenRule) → IsLeastBroken l (takes_in body l.kernel) r → IsLeastBroken l (takes_of k l.kernel) r
+
+-- Item simulation: the module serves each item of each launch that fits the kernel.
+pub record ItemSimulation (body : List Inst) (k : Kernel) : Type 0 where
   pub serves : (l : LoadedLaunch) (start : Start) (item : ℕ) → Fits k l → BindsTo body l start → item < volume l.global → ItemServes body k l start item
