@@ -58,10 +58,10 @@ with_given : (lines : List Said) (n : ℕ) (g : Given) → with_argument (draft_
 with_given lines n g = let s = said.Argument n g in same_draft _ _ _ _ _ _ _ _ _ _ _ _ _ _
     (sym (first_of_same kernel_of lines s refl)) (sym (first_of_same global_of lines s refl)) (sym (local_same lines s refl)) (sym (files_given lines n g)) (sym (arguments_given lines n g)) (sym (first_of_same schedule_of lines s refl)) (sym (first_of_same steps_of lines s refl))
 
-abbrev After : List Said → Said → Result Draft ℕ
+abbrev pub After : List Said → Said → Result Draft ℕ
 After lines s = cond (is_given lines s) (Err 7) (Ok (draft_of (lines ++ s ∷ [])))
 
-taken_is : (lines : List Said) (s : Said) → taken (draft_of lines) (length lines + 1) s ≡ After lines s
+pub taken_is : (lines : List Said) (s : Said) → taken (draft_of lines) (length lines + 1) s ≡ After lines s
 taken_is lines said.Nothing = ap Ok (with_nothing lines)
 taken_is lines (said.Kernel name) = unless (is_some (first_of kernel_of lines)) _ _ (λ e. ap Ok (with_kernel lines name (none_is _ e)))
 taken_is lines (said.Global grid) = unless (is_some (first_of global_of lines)) _ _ (λ e. ap Ok (with_global lines grid (none_is _ e)))

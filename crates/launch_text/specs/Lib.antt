@@ -5,3 +5,4 @@ pub mod Lines
 pub mod Rules
 pub mod Said
 pub mod WorkItems
+pub mod Readable

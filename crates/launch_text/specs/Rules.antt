@@ -1,5 +1,5 @@
 -- A launch with the contents of its buffers, and the rules that it keeps for what its kernel takes.
-use Rattle.std.specs.Prelude.{◌≡◌, ◌⊎◌, ℕ, ◌*◌, ◌^◌, ◌<◌, ◌≤◌, List, length, Contains, Option, Some, None, slice_get, option_map, nat_eq, if◌then◌else◌, [], ◌∷◌}
+use Rattle.std.specs.Prelude.{◌≡◌, ℕ, ◌*◌, ◌^◌, ◌<◌, ◌≤◌, List, length, Contains, Option, Some, None, slice_get, option_map, nat_eq, if◌then◌else◌, [], ◌∷◌}
 use Rattle.std.specs.Option.{option_or}
 use Rattle.launch_text.specs.declared.launch.ArgKind.{ArgKind}
 use Rattle.launch_text.specs.declared.launch.ArgKind.TheVariants.{Buffer, Local, Plain}

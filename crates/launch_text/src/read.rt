@@ -4,6 +4,7 @@ ghost use Rattle.std.specs.Prelude.{◌≡◌, ◌<◌, ◌^◌, length, IfOk, I
 ghost use Rattle.launch_text.specs.Answers.{Changes, stop_at};
 ghost use Rattle.launch_text.specs.Drafts.{line_taken};
 ghost use Rattle.launch_text.specs.LaunchText.{launch_of, IsStopOf};
+ghost use Rattle.launch_text.specs.Readable.{IsReadable};
 ghost use Rattle.launch_text.specs.Said.{line_said};
 
 use crate::draft::Draft;
@@ -21,6 +22,7 @@ pub const MAX_TEXT: usize = 65_536;
 #[tactic(auto, using(crate::proofs::Reading::readings))]
 pub fn read_launch(alloc: Global, bytes: &[u8]) -> Result<Launch, LaunchStop>
     ensures ok { IfOk result (λ launch. launch_of bytes.now ≡ Ok launch) }
+    ensures readable { IfOk result IsReadable }
     ensures fault { IfErr result (IsStopOf (launch_of bytes.now)) }
 {
     if bytes.len() > MAX_TEXT {

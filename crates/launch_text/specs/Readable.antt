@@ -1,0 +1,27 @@
+-- What holds of each launch that a text gives.
+use Rattle.std.specs.Prelude.{◌≡◌, ℕ, ◌^◌, ◌≤◌, List, length, Some, slice_get}
+use Rattle.launch_text.specs.declared.launch.Launch.{Launch}
+use Rattle.launch_text.specs.declared.launch.Schedule.{Schedule}
+use Rattle.launch_text.specs.declared.launch.Schedule.TheVariants.{Robin, Mixed}
+use Rattle.launch_text.specs.Rules.{IsLaunch, loaded}
+
+-- a turn has at least one step
+abbrev pub IsSchedule : Schedule → Type 0
+IsSchedule (Robin turn) = 1 ≤ turn
+IsSchedule (Mixed seed) = Unit {0}
+
+-- a run may take at least one step, and at most 10^12
+pub record IsCount (steps : ℕ) : Type 0 where
+  pub some : 1 ≤ steps
+  pub few : steps ≤ 10 ^ 12
+
+-- no two files have one name
+abbrev pub AreDistinct : List (List ℕ) → Type 0
+AreDistinct files = (m n : ℕ) (name : List ℕ) → slice_get files m ≡ Some name → slice_get files n ≡ Some name → m ≡ n
+
+-- With one buffer for each name it is a launch.
+pub record IsReadable (l : Launch) : Type 0 where
+  pub launch : (buffers : List (List ℕ)) → length buffers ≡ length l.files → IsLaunch (loaded l buffers)
+  pub files : AreDistinct l.files
+  pub schedule : IsSchedule l.schedule
+  pub steps : IsCount l.steps
