@@ -1,5 +1,6 @@
 -- What holds of each launch that a text gives: each line says only what fits, and what the lines have said stays a launch.
 use Rattle.std.proofs.Common.{◌≡◌, ◌⊎◌, inl, inr, ℕ, zero, suc, ◌+◌, ◌-◌, ◌^◌, ◌<◌, ◌≤◌, Bool, true, false, not, ◌||◌, ◌&&◌, cond, eqb, leb, List, [], ◌∷◌, ◌++◌, length, Option, Some, None, is_some, unwrap_or, Result, Ok, Err, refl, sym, ap, ◌∙◌, subst, arith, slice_get, Contains, length-append}
+use Rattle.std.specs.Prelude.{All}
 use Rattle.std.specs.List.{list_any, list_all, position_or_len}
 use Rattle.std.specs.Str.{bytes_eq}
 use Rattle.std.specs.Result.{IfOk}
@@ -7,7 +8,7 @@ use Rattle.std.specs.Char.{is_ascii_digit}
 use Rattle.std.specs.Str.Lines.{strip_carriage_return}
 use Rattle.std.specs.Str.Parse.{digits_value}
 use Rattle.std.proofs.lemmas.Bool.{leb-true, eqb-true, eqb-false}
-use Rattle.std.proofs.lemmas.List.Elements.{Contains-push_cases}
+use Rattle.std.proofs.lemmas.List.Elements.{All-nil, All-head, All-tail, All-push, Contains-push_cases}
 use Rattle.std.proofs.lemmas.List.Sums.{prefix_len-le-length}
 use Rattle.hex.specs.Hex.{decode_of}
 use Rattle.hex.specs.declared.error.FromHexError.{FromHexError}
@@ -27,12 +28,13 @@ use Rattle.launch_text.specs.declared.said.Said.TheVariants as said
 use Rattle.launch_text.specs.Drafts.{has_ordinal, files_with, taken, finished}
 use Rattle.launch_text.specs.LaunchText.{Fault, with_file, kind_of, is_given, once, said_after, at_line, all_said, launch_said, launch_of}
 use Rattle.launch_text.specs.Lines.{lines_of, words_of}
-use Rattle.launch_text.specs.Readable.{IsSchedule, IsCount, AreDistinct, IsReadable}
+use Rattle.launch_text.specs.Readable.{IsSchedule, IsCount, AreDistinct, IsName, IsReadable}
 use Rattle.launch_text.specs.Rules.{AreSizes}
 use Rattle.launch_text.specs.WorkItems.{sizes_of}
-use Rattle.launch_text.specs.Said.{number_of, number32_of, grid_of, sizes_said, global_said, local_said, kernel_said, buffer_given, local_given, plain_given, given_said, argument_said, robin_given, seed_given, turns_said, schedule_said, steps_given, steps_said, words_said, line_said}
+use Rattle.launch_text.specs.Said.{number_of, number32_of, grid_of, sizes_said, global_said, local_said, kernel_said, buffer_given, local_given, plain_given, given_said, argument_said, robin_given, seed_given, turns_said, schedule_said, steps_given, steps_said, is_text, words_said, line_said}
 use Rattle.launch_text.proofs.Drafts.{draft_of, taken_is, drafted_is}
 use Rattle.launch_text.proofs.Files.{same_name}
+use Rattle.launch_text.proofs.Names.{names_utf8, words_are_names}
 use Rattle.launch_text.proofs.Places.{none_passes, place_of_new, place_of_none}
 
 -- ---- what one line says fits
@@ -43,8 +45,10 @@ pub record IsGrid (g : Grid) : Type 0 where
   pub sizes : AreSizes g.dims (sizes_of g.sizes)
 
 abbrev pub IsFit : Said → Type 0
+IsFit (said.Kernel name) = IsName name
 IsFit (said.Global grid) = IsGrid grid
 IsFit (said.Local grid) = IsGrid grid
+IsFit (said.Argument n (given.Buffer file)) = IsName file
 IsFit (said.Schedule schedule) = IsSchedule schedule
 IsFit (said.Steps count) = IsCount count
 IsFit _ = Unit {0}
@@ -68,6 +72,10 @@ record Answer (r : Result Said ℕ) : Type 0 where
 either : (b : Bool) (x y : Result Said ℕ) → Answer x → Answer y → Answer (cond b x y)
 either true x y h k = h
 either false x y h k = k
+
+if_so : (b : Bool) (x y : Result Said ℕ) → (b ≡ true → Answer x) → Answer y → Answer (cond b x y)
+if_so true x y h k = h refl
+if_so false x y h k = k
 
 answer : {r : Result Said ℕ} → Fits r → Answer r
 answer h = record { fits = h }
@@ -125,14 +133,14 @@ local_fits : (r : Result Grid ℕ) → FitsGrid r → Fits (local_said r)
 local_fits (Ok grid) h = h
 local_fits (Err rule) h = tt
 
-kernel_fits : (words : List (List ℕ)) → Fits (kernel_said words)
-kernel_fits [] = tt
-kernel_fits (name ∷ []) = tt
-kernel_fits (name ∷ word ∷ words) = tt
+kernel_fits : (words : List (List ℕ)) → All IsName words → Fits (kernel_said words)
+kernel_fits [] h = tt
+kernel_fits (name ∷ []) h = All-head IsName name [] h
+kernel_fits (name ∷ word ∷ words) h = tt
 
-buffer_fits : (n : Option ℕ) (file : List ℕ) → Fits (buffer_given n file)
-buffer_fits None file = tt
-buffer_fits (Some n) file = tt
+buffer_fits : (n : Option ℕ) (file : List ℕ) → IsName file → Fits (buffer_given n file)
+buffer_fits None file h = tt
+buffer_fits (Some n) file h = h
 
 bytes_if : (b : Bool) (n bytes : ℕ) → Fits (cond b (Err 6) (Ok (said.Argument n (given.Local bytes))))
 bytes_if true n bytes = tt
@@ -148,15 +156,15 @@ plain_fits None bytes = tt
 plain_fits (Some n) (Ok bytes) = tt
 plain_fits (Some n) (Err e) = tt
 
-given_answers : (n : Option ℕ) (kind value : List ℕ) → Answer (given_said n kind value)
-given_answers n kind value = either _ _ _ (answer (buffer_fits n value)) (either _ _ _ (answer (bytes_fit n (number32_of value))) (either _ _ _ (answer (plain_fits n (decode_of value))) (answer {r = Err 3} tt)))
+given_answers : (n : Option ℕ) (kind value : List ℕ) → IsName value → Answer (given_said n kind value)
+given_answers n kind value h = either _ _ _ (answer (buffer_fits n value h)) (either _ _ _ (answer (bytes_fit n (number32_of value))) (either _ _ _ (answer (plain_fits n (decode_of value))) (answer {r = Err 3} tt)))
 
-argument_fits : (words : List (List ℕ)) → Fits (argument_said words)
-argument_fits [] = tt
-argument_fits (n ∷ []) = tt
-argument_fits (n ∷ kind ∷ []) = tt
-argument_fits (n ∷ kind ∷ value ∷ []) = (given_answers (number32_of n) kind value).fits
-argument_fits (n ∷ kind ∷ value ∷ word ∷ words) = tt
+argument_fits : (words : List (List ℕ)) → All IsName words → Fits (argument_said words)
+argument_fits [] h = tt
+argument_fits (n ∷ []) h = tt
+argument_fits (n ∷ kind ∷ []) h = tt
+argument_fits (n ∷ kind ∷ value ∷ []) h = (given_answers (number32_of n) kind value (All-head IsName value [] (All-tail IsName kind (value ∷ []) (All-tail IsName n (kind ∷ value ∷ []) h)))).fits
+argument_fits (n ∷ kind ∷ value ∷ word ∷ words) h = tt
 
 count_if : (b : Bool) (n : ℕ) → (b ≡ false → IsCount n) → Fits (cond b (Err 6) (Ok (said.Steps n)))
 count_if true n h = tt
@@ -192,12 +200,14 @@ schedule_fits (kind ∷ []) = tt
 schedule_fits (kind ∷ value ∷ []) = (turns_answer kind value).fits
 schedule_fits (kind ∷ value ∷ word ∷ words) = tt
 
-words_answer : (words : List (List ℕ)) → Answer (words_said words)
-words_answer [] = answer tt
-words_answer (first ∷ rest) = either _ _ _ (answer {r = Ok said.Nothing} tt) (either _ _ _ (answer (kernel_fits rest)) (either _ _ _ (answer (global_fits (sizes_said rest) (sizes_fit rest))) (either _ _ _ (answer (local_fits (sizes_said rest) (sizes_fit rest))) (either _ _ _ (answer (argument_fits rest)) (either _ _ _ (answer (schedule_fits rest)) (either _ _ _ (answer (steps_fit rest)) (answer {r = Err 2} tt)))))))
+words_answer : (words : List (List ℕ)) → All IsName words → Answer (words_said words)
+words_answer [] h = answer tt
+words_answer (first ∷ rest) h = either _ _ _ (answer {r = Ok said.Nothing} tt) (either _ _ _ (answer (kernel_fits rest (All-tail IsName first rest h))) (either _ _ _ (answer (global_fits (sizes_said rest) (sizes_fit rest))) (either _ _ _ (answer (local_fits (sizes_said rest) (sizes_fit rest))) (either _ _ _ (answer (argument_fits rest (All-tail IsName first rest h))) (either _ _ _ (answer (schedule_fits rest)) (either _ _ _ (answer (steps_fit rest)) (answer {r = Err 2} tt)))))))
 
 line_answer : (line : List ℕ) → Answer (line_said line)
-line_answer line = either _ _ _ (words_answer (words_of (strip_carriage_return line))) (answer {r = Err 1} tt)
+line_answer line =
+    let content = strip_carriage_return line in
+    if_so (list_all is_text content) (words_said (words_of content)) (Err 1) (λ e. words_answer (words_of content) (words_are_names content e)) (answer {r = Err 1} tt)
 
 line_fits : (line : List ℕ) → Fits (line_said line)
 line_fits line = (line_answer line).fits
@@ -272,6 +282,15 @@ distinct_more xs (given.Buffer file) old = distinct_if xs file (list_any (bytes_
 distinct_more xs (given.Local bytes) old = old
 distinct_more xs (given.Plain bytes) old = old
 
+named_if : (xs : List (List ℕ)) (x : List ℕ) (b : Bool) → IsName x → All IsName xs → All IsName (cond b xs (xs ++ x ∷ []))
+named_if xs x true h old = old
+named_if xs x false h old = All-push IsName xs x old h
+
+named_more : (xs : List (List ℕ)) (n : ℕ) (g : Given) → IsFit (said.Argument n g) → All IsName xs → All IsName (files_with xs g)
+named_more xs n (given.Buffer file) h old = named_if xs file (list_any (bytes_eq file) xs) h old
+named_more xs n (given.Local bytes) h old = old
+named_more xs n (given.Plain bytes) h old = old
+
 -- ---- each buffer that is given has a name
 
 abbrev AreThere : List ArgLine → ℕ → Type 0
@@ -314,6 +333,7 @@ there_more xs files n g old ordinal file c = elim (Contains-push_cases xs (recor
 -- ---- what the lines have said is a launch so far
 
 pub record IsSound (d : Draft) : Type 0 where
+  pub kernel : (name : List ℕ) → d.kernel ≡ Some name → IsName name
   pub global : (g : Grid) → d.global ≡ Some g → IsGrid g
   pub local : (l : LocalLine) → d.local ≡ Some l → IsGrid l.grid
   pub schedule : (s : Schedule) → d.schedule ≡ Some s → IsSchedule s
@@ -321,12 +341,14 @@ pub record IsSound (d : Draft) : Type 0 where
   pub once : AreOnce d.args
   pub there : AreThere d.args (length d.files)
   pub files : AreDistinct d.files
+  pub named : All IsName d.files
 
 none_there : (a : ArgLine) → Contains [] a → ⊥
 none_there a c = let h = c.1 in omega (arith, h)
 
 sound_first : IsSound (draft_of [])
 sound_first = record {
+  kernel = λ name h. absurd (none_some name h);
   global = λ g h. absurd (none_some g h);
   local = λ l h. absurd (none_some l h);
   schedule = λ s h. absurd (none_some s h);
@@ -334,6 +356,7 @@ sound_first = record {
   once = λ m n a b g h e. absurd (none_some a g);
   there = λ ordinal file c. absurd (none_there _ c);
   files = λ m n name g h. absurd (none_some name g);
+  named = All-nil IsName;
 }
 
 put_fits : {A : Type 0} (P : A → Type 0) (x y : A) → P x → Some x ≡ Some y → P y
@@ -345,10 +368,11 @@ sound_if false d e h k = (let s : d ≡ e = cc in subst IsSound s (h refl))
 
 sound_taken : (d e : Draft) (line : ℕ) (s : Said) → IsSound d → IsFit s → taken d line s ≡ Ok e → IsSound e
 sound_taken d e line said.Nothing h fit k = (let s : d ≡ e = cc in subst IsSound s h)
-sound_taken d e line (said.Kernel name) h fit k = sound_if (is_some d.kernel) _ e (λ p. record { global = h.global; local = h.local; schedule = h.schedule; steps = h.steps; once = h.once; there = h.there; files = h.files }) k
-sound_taken d e line (said.Global grid) h fit k = sound_if (is_some d.global) _ e (λ p. record { global = λ g q. put_fits IsGrid grid g fit q; local = h.local; schedule = h.schedule; steps = h.steps; once = h.once; there = h.there; files = h.files }) k
-sound_taken d e line (said.Local grid) h fit k = sound_if (is_some d.local) _ e (λ p. record { global = h.global; local = λ l q. put_fits (λ (l : LocalLine). IsGrid l.grid) _ l fit q; schedule = h.schedule; steps = h.steps; once = h.once; there = h.there; files = h.files }) k
+sound_taken d e line (said.Kernel name) h fit k = sound_if (is_some d.kernel) _ e (λ p. record { kernel = λ n q. put_fits IsName name n fit q; global = h.global; local = h.local; schedule = h.schedule; steps = h.steps; once = h.once; there = h.there; files = h.files; named = h.named }) k
+sound_taken d e line (said.Global grid) h fit k = sound_if (is_some d.global) _ e (λ p. record { kernel = h.kernel; global = λ g q. put_fits IsGrid grid g fit q; local = h.local; schedule = h.schedule; steps = h.steps; once = h.once; there = h.there; files = h.files; named = h.named }) k
+sound_taken d e line (said.Local grid) h fit k = sound_if (is_some d.local) _ e (λ p. record { kernel = h.kernel; global = h.global; local = λ l q. put_fits (λ (l : LocalLine). IsGrid l.grid) _ l fit q; schedule = h.schedule; steps = h.steps; once = h.once; there = h.there; files = h.files; named = h.named }) k
 sound_taken d e line (said.Argument n g) h fit k = sound_if (list_any (has_ordinal n) d.args) _ e (λ p. record {
+  kernel = h.kernel;
   global = h.global;
   local = h.local;
   schedule = h.schedule;
@@ -356,9 +380,10 @@ sound_taken d e line (said.Argument n g) h fit k = sound_if (list_any (has_ordin
   once = once_more d.args (record { ordinal = n; kind = kind_of (files_with d.files g) g }) p h.once;
   there = there_more d.args d.files n g h.there;
   files = distinct_more d.files g h.files;
+  named = named_more d.files n g fit h.named;
 }) k
-sound_taken d e line (said.Schedule schedule) h fit k = sound_if (is_some d.schedule) _ e (λ p. record { global = h.global; local = h.local; schedule = λ s q. put_fits IsSchedule schedule s fit q; steps = h.steps; once = h.once; there = h.there; files = h.files }) k
-sound_taken d e line (said.Steps count) h fit k = sound_if (is_some d.steps) _ e (λ p. record { global = h.global; local = h.local; schedule = h.schedule; steps = λ n q. put_fits IsCount count n fit q; once = h.once; there = h.there; files = h.files }) k
+sound_taken d e line (said.Schedule schedule) h fit k = sound_if (is_some d.schedule) _ e (λ p. record { kernel = h.kernel; global = h.global; local = h.local; schedule = λ s q. put_fits IsSchedule schedule s fit q; steps = h.steps; once = h.once; there = h.there; files = h.files; named = h.named }) k
+sound_taken d e line (said.Steps count) h fit k = sound_if (is_some d.steps) _ e (λ p. record { kernel = h.kernel; global = h.global; local = h.local; schedule = h.schedule; steps = λ n q. put_fits IsCount count n fit q; once = h.once; there = h.there; files = h.files; named = h.named }) k
 
 -- ---- all lines
 
@@ -394,9 +419,9 @@ steps_or : (o : Option ℕ) → ((n : ℕ) → o ≡ Some n → IsCount n) → I
 steps_or None h = record { some = omega arith; few = omega arith }
 steps_or (Some n) h = h n refl
 
-readable_if : (d : Draft) (l : Launch) (f : Fault) (kernel : List ℕ) (g : Grid) (o : LocalLine) (b : Bool) → eqb g.dims o.grid.dims ≡ b → d.global ≡ Some g → d.local ≡ Some o → IsSound d → cond {A = Result Launch Fault} b (Ok (record { kernel = kernel; dims = g.dims; global = g.sizes; local = o.grid.sizes; files = d.files; args = d.args; schedule = unwrap_or d.schedule (Robin 1); steps = unwrap_or d.steps 100000000 })) (Err f) ≡ Ok l → IsReadable l
-readable_if d l f kernel g o false test is_global is_local h e = absurd (let never : ⊥ = cc in never)
-readable_if d l f kernel g o true test is_global is_local h e =
+readable_if : (d : Draft) (l : Launch) (f : Fault) (kernel : List ℕ) (g : Grid) (o : LocalLine) (b : Bool) → eqb g.dims o.grid.dims ≡ b → d.kernel ≡ Some kernel → d.global ≡ Some g → d.local ≡ Some o → IsSound d → cond {A = Result Launch Fault} b (Ok (record { kernel = kernel; dims = g.dims; global = g.sizes; local = o.grid.sizes; files = d.files; args = d.args; schedule = unwrap_or d.schedule (Robin 1); steps = unwrap_or d.steps 100000000 })) (Err f) ≡ Ok l → IsReadable l
+readable_if d l f kernel g o false test is_kernel is_global is_local h e = absurd (let never : ⊥ = cc in never)
+readable_if d l f kernel g o true test is_kernel is_global is_local h e =
     let made : Launch = record { kernel = kernel; dims = g.dims; global = g.sizes; local = o.grid.sizes; files = d.files; args = d.args; schedule = unwrap_or d.schedule (Robin 1); steps = unwrap_or d.steps 100000000 } in
     let same : made ≡ l = cc in
     let global = h.global g is_global in
@@ -410,19 +435,22 @@ readable_if d l f kernel g o true test is_global is_local h e =
         once = h.once;
         buffers = λ ordinal file c. (let there = h.there ordinal file c in omega (arith, there, count));
       };
+      kernel = h.kernel kernel is_kernel;
       files = h.files;
+      named = h.named;
+      names = names_utf8 d.files h.named;
       schedule = schedule_or d.schedule h.schedule;
       steps = steps_or d.steps h.steps;
     })
 
-readable_by : (d : Draft) (count : ℕ) (l : Launch) (kernel : Option (List ℕ)) (g : Option Grid) (o : Option LocalLine) → d.global ≡ g → d.local ≡ o → IsSound d → finished d count kernel g o ≡ Ok l → IsReadable l
-readable_by d count l (Some kernel) (Some g) (Some o) is_global is_local h e = readable_if d l _ kernel g o (eqb g.dims o.grid.dims) refl is_global is_local h e
-readable_by d count l (Some kernel) (Some g) None is_global is_local h e = absurd (let never : ⊥ = cc in never)
-readable_by d count l (Some kernel) None o is_global is_local h e = absurd (let never : ⊥ = cc in never)
-readable_by d count l None g o is_global is_local h e = absurd (let never : ⊥ = cc in never)
+readable_by : (d : Draft) (count : ℕ) (l : Launch) (kernel : Option (List ℕ)) (g : Option Grid) (o : Option LocalLine) → d.kernel ≡ kernel → d.global ≡ g → d.local ≡ o → IsSound d → finished d count kernel g o ≡ Ok l → IsReadable l
+readable_by d count l (Some kernel) (Some g) (Some o) is_kernel is_global is_local h e = readable_if d l _ kernel g o (eqb g.dims o.grid.dims) refl is_kernel is_global is_local h e
+readable_by d count l (Some kernel) (Some g) None is_kernel is_global is_local h e = absurd (let never : ⊥ = cc in never)
+readable_by d count l (Some kernel) None o is_kernel is_global is_local h e = absurd (let never : ⊥ = cc in never)
+readable_by d count l None g o is_kernel is_global is_local h e = absurd (let never : ⊥ = cc in never)
 
 readable_from : (v : Result (List Said) Fault) (l : Launch) → ((lines : List Said) → v ≡ Ok lines → IsSound (draft_of lines)) → launch_said v ≡ Ok l → IsReadable l
-readable_from (Ok lines) l h e = (let d = draft_of lines in readable_by d (length lines) l d.kernel d.global d.local refl refl (h lines refl) (drafted_is lines ∙ e))
+readable_from (Ok lines) l h e = (let d = draft_of lines in readable_by d (length lines) l d.kernel d.global d.local refl refl refl (h lines refl) (drafted_is lines ∙ e))
 readable_from (Err fault) l h e = absurd (let never : ⊥ = cc in never)
 
 chosen_ok : (b : Bool) (v : Result Launch Fault) (f : Fault) (l : Launch) → cond b v (Err f) ≡ Ok l → v ≡ Ok l

@@ -5,4 +5,5 @@ pub mod LineBreaks
 pub mod Numbers
 pub mod Places
 pub mod Reading
+pub mod Names
 pub mod LaunchLaws

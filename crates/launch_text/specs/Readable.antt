@@ -1,5 +1,5 @@
 -- What holds of each launch that a text gives.
-use Rattle.std.specs.Prelude.{◌≡◌, ℕ, ◌^◌, ◌≤◌, List, length, Some, slice_get}
+use Rattle.std.specs.Prelude.{◌≡◌, ℕ, ◌^◌, ◌≤◌, List, length, Some, slice_get, All, IsUtf8}
 use Rattle.launch_text.specs.declared.launch.Launch.{Launch}
 use Rattle.launch_text.specs.declared.launch.Schedule.{Schedule}
 use Rattle.launch_text.specs.declared.launch.Schedule.TheVariants.{Robin, Mixed}
@@ -19,9 +19,22 @@ pub record IsCount (steps : ℕ) : Type 0 where
 abbrev pub AreDistinct : List (List ℕ) → Type 0
 AreDistinct files = (m n : ℕ) (name : List ℕ) → slice_get files m ≡ Some name → slice_get files n ≡ Some name → m ≡ n
 
+-- printable ASCII other than the space
+pub record IsVisible (b : ℕ) : Type 0 where
+  pub first : 33 ≤ b
+  pub last : b ≤ 126
+
+-- A name is a word.
+pub record IsName (name : List ℕ) : Type 0 where
+  pub some : 1 ≤ length name
+  pub visible : All IsVisible name
+
 -- With one buffer for each name it is a launch.
 pub record IsReadable (l : Launch) : Type 0 where
   pub launch : (buffers : List (List ℕ)) → length buffers ≡ length l.files → IsLaunch (loaded l buffers)
+  pub kernel : IsName l.kernel
   pub files : AreDistinct l.files
+  pub named : All IsName l.files
+  pub names : All IsUtf8 l.files
   pub schedule : IsSchedule l.schedule
   pub steps : IsCount l.steps
