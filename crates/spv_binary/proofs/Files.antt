@@ -105,16 +105,16 @@ module_found bytes g b body fit small e read whole =
 -- ---- what is spelled
 
 -- its words, read in the order of its first
-record IsFileOf (m : Module) (bytes : List ℕ) : Type 0 where
-  words : words_of bytes ≡ MAGIC ∷ VERSION ∷ m.generator ∷ m.bound ∷ 0 ∷ body_words m.body
-  long : length bytes ≡ 4 * length (module_words m)
+pub record IsFileOf (m : Module) (bytes : List ℕ) : Type 0 where
+  pub words : words_of bytes ≡ MAGIC ∷ VERSION ∷ m.generator ∷ m.bound ∷ 0 ∷ body_words m.body
+  pub long : length bytes ≡ 4 * length (module_words m)
 
 tail_fits : (m : Module) → IsSpelled m → AllByRecursion IsWord (VERSION ∷ m.generator ∷ m.bound ∷ 0 ∷ body_words m.body)
 tail_fits m h =
     let high = h.bound_high in
     (record { below = omega arith }, (record { below = h.generator }, (record { below = omega arith }, (record { below = omega arith }, body_fits m.bound m.body (omega arith) h.body))))
 
-IsFileOf-Spells : (m : Module) (bytes : List ℕ) → Spells m bytes → IsFileOf m bytes
+pub IsFileOf-Spells : (m : Module) (bytes : List ℕ) → Spells m bytes → IsFileOf m bytes
 IsFileOf-Spells m bytes h =
     let ws = VERSION ∷ m.generator ∷ m.bound ∷ 0 ∷ body_words m.body in
     let fit = tail_fits m h.spelled in

@@ -4,6 +4,7 @@
 
 mod kind;
 pub mod reading;
+pub mod round_trip;
 mod shape;
 pub mod stop;
 mod string;
@@ -13,5 +14,6 @@ mod words;
 pub mod writing;
 
 pub use reading::read;
+pub use round_trip::{read_is_written, spelled_once, written_is_read};
 pub use stop::{ReadStop, rule};
 pub use writing::write;
