@@ -89,7 +89,7 @@ pub record IsReadingBody (bound : ℕ) (words : List ℕ) (body : List Inst) (at
 pub IsReadingBody-start : (bound : ℕ) (words : List ℕ) → AllByRecursion IsWord words → IsReadingBody bound words [] 5 words
 IsReadingBody-start bound words h = record { place = refl; spelled = AreSpelled-nil bound; words_are = refl; fit = h; back = λ f b. b; forth = λ f b. b }
 
-reading_more : (bound : ℕ) (words : List ℕ) (body : List Inst) (at first : ℕ) (others : List ℕ) (i : Inst) → IsReadingBody bound words body at (first ∷ others) → inst_at bound at (first ∷ others) ≡ Ok i → IsReadingBody bound words (body ++ i ∷ []) (at + count_of first) (drop (count_of first) (first ∷ others))
+pub reading_more : (bound : ℕ) (words : List ℕ) (body : List Inst) (at first : ℕ) (others : List ℕ) (i : Inst) → IsReadingBody bound words body at (first ∷ others) → inst_at bound at (first ∷ others) ≡ Ok i → IsReadingBody bound words (body ++ i ∷ []) (at + count_of first) (drop (count_of first) (first ∷ others))
 reading_more bound words body at first others i p e =
     let r = inst_reads bound at first others i p.fit e in
     let n = count_of first in
@@ -114,7 +114,7 @@ pub body_count : (bound : ℕ) (words : List ℕ) (body : List Inst) (at : ℕ) 
 body_count bound words body at [] i count p some e count-is = absurd (cc)
 body_count bound words body at (first ∷ others) i count p some e count-is = let r = inst_reads bound at first others i p.fit e in rw count-is (r.some, r.within)
 
-first_in_body : (bound : ℕ) (words : List ℕ) (body : List Inst) (at : ℕ) (rest : List ℕ) (f : Fault) → IsReadingBody bound words body at rest → (length rest == 0) ≡ false → inst_at bound at rest ≡ Err f → IsBodyFault bound words f
+pub first_in_body : (bound : ℕ) (words : List ℕ) (body : List Inst) (at : ℕ) (rest : List ℕ) (f : Fault) → IsReadingBody bound words body at rest → (length rest == 0) ≡ false → inst_at bound at rest ≡ Err f → IsBodyFault bound words f
 first_in_body bound words body at [] f p some e = absurd (cc)
 first_in_body bound words body at (first ∷ others) f p some e =
     let bad = inst_fails bound at first others f p.fit e in

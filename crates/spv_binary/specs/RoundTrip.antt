@@ -1,10 +1,14 @@
 -- What is written is read again, and what is read is written again.
-use Rattle.std.specs.Prelude.{◌≡◌, ℕ, Bool, List, Result, IfOk, IfErr}
+use Rattle.std.specs.Prelude.{◌≡◌, ℕ, ◌<◌, ◌⊎◌, Bool, List, get_or, Result, IfOk, IfErr}
 use Rattle.spv_module.specs.declared.module.Module.{Module}
 use Rattle.spv_module.specs.Words.{module_words, IsSpelled, Spells}
 use Rattle.spv_binary.specs.declared.stop.ReadStop.{ReadStop}
-use Rattle.spv_binary.specs.Faults.{Fault, words_of, is_high_first, Broken}
+use Rattle.spv_binary.specs.Faults.{Fault, words_of, is_high_first, Broken, IsFirst}
 use Rattle.spv_binary.specs.Reading.{Answers, IsFaultOf}
+
+-- each is a byte
+abbrev pub AreBytes : List ℕ → Type 0
+AreBytes bytes = (i : ℕ) → get_or bytes i 0 < 256
 
 -- ---- what bytes spell
 
@@ -23,6 +27,10 @@ SpelledOnceInEachOrder = (m : Module) (a b : List ℕ) → Spells m a → Spells
 -- What spells a module breaks no rule.
 abbrev pub SpelledIsWhole : Type 0
 SpelledIsWhole = (m : Module) (bytes : List ℕ) (f : Fault) → Spells m bytes → Broken bytes f → ⊥
+
+-- What spells no module breaks a rule, and first in one place.
+abbrev pub SpelledOrBroken : Type 0
+SpelledOrBroken = (bytes : List ℕ) → AreBytes bytes → ((m : Module) × Spells m bytes) ⊎ ((f : Fault) × IsFirst (Broken bytes) f)
 
 -- ---- there and back
 

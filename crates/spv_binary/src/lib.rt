@@ -14,6 +14,6 @@ mod words;
 pub mod writing;
 
 pub use reading::read;
-pub use round_trip::{read_is_written, spelled_once, written_is_read};
+pub use round_trip::{read_is_written, spelled_once, spelled_or_broken, written_is_read};
 pub use stop::{ReadStop, rule};
 pub use writing::write;
