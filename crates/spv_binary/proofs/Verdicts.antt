@@ -1,4 +1,4 @@
--- Each file spells a module or breaks a rule.
+-- Each file spells a module or breaks a rule, and so has one answer.
 use Rattle.std.proofs.Common.{◌≡◌, ℕ, ◌+◌, ◌%◌, ◌≤◌, ◌<◌, ◌==◌, ◌⊎◌, false, List, [], ◌∷◌, ◌++◌, length, drop, zero, suc, Result, Ok, Err, refl, sym, ap, subst, ◌∙◌, arith, inl, inr}
 use Rattle.std.specs.List.{AllByRecursion}
 use Rattle.std.proofs.lemmas.Bool.{cases_lt}
@@ -8,11 +8,13 @@ use Rattle.spv_module.specs.declared.module.Module.{Module}
 use Rattle.spv_module.specs.declared.module.Inst.{Inst}
 use Rattle.spv_module.specs.declared.module.TheConstants.{MAX_BYTES}
 use Rattle.spv_module.specs.Words.{IsWord, Spells}
-use Rattle.spv_binary.specs.Faults.{Fault, count_of, words_of, Broken, IsFirst}
+use Rattle.spv_binary.specs.declared.stop.ReadStop.{ReadStop}
+use Rattle.spv_binary.specs.declared.stop.ReadStop.TheVariants as stops
+use Rattle.spv_binary.specs.Faults.{Fault, fault, count_of, words_of, Broken, IsFirst}
 use Rattle.spv_binary.specs.Reading.{inst_at, header_at, IsBody, IsBodyFault}
-use Rattle.spv_binary.specs.RoundTrip.{AreBytes, SpelledOrBroken}
+use Rattle.spv_binary.specs.RoundTrip.{AreBytes, SpelledOrBroken, AnsweredOnce}
 use Rattle.spv_binary.proofs.Bodies.{IsReadingBody, IsReadingBody-start, reading_more, first_in_body, body_count, body_ends}
-use Rattle.spv_binary.proofs.Files.{long_fault, header_fault, inst_fault, ragged_fault, module_found}
+use Rattle.spv_binary.proofs.Files.{long_fault, header_fault, inst_fault, ragged_fault, module_found, Spells-clean, Spells-unique}
 use Rattle.spv_binary.proofs.OperandLists.{words-drop}
 use Rattle.spv_binary.proofs.Orders.{words_of-fit}
 
@@ -77,3 +79,28 @@ spelled_or_broken bytes fit =
       | inl long ↦ inr (_, long_fault bytes long)
       | inr small ↦ small_verdict bytes fit small
     ]
+
+-- ---- answers
+
+abbrev stopped : ReadStop → Result Module ReadStop
+stopped s = Err s
+
+-- of two first faults each is at no later word, and there has no greater number
+same_fault : (bytes : List ℕ) (n w m v : ℕ) → IsFirst (Broken bytes) (fault n w) → IsFirst (Broken bytes) (fault m v) → stopped (stops.Fault n w) ≡ stopped (stops.Fault m v)
+same_fault bytes n w m v p q =
+    let a = p.earliest (fault m v) q.fault in
+    let b = q.earliest (fault n w) p.fault in
+    let word : w ≡ v = omega arith in
+    let c = p.least (fault m v) q.fault (sym word) in
+    let d = q.least (fault n w) p.fault word in
+    let number : n ≡ m = omega arith in
+    ap (λ k. stopped (stops.Fault k w)) number ∙ ap (λ k. stopped (stops.Fault m k)) word
+
+pub answered_once : AnsweredOnce
+answered_once bytes (Err stops.NoMemory) s p q = inl refl
+answered_once bytes (Ok m) (Err stops.NoMemory) p q = inr (inl refl)
+answered_once bytes (Err (stops.Fault n w)) (Err stops.NoMemory) p q = inr (inl refl)
+answered_once bytes (Ok m) (Ok n) p q = inr (inr (ap Ok (Spells-unique m n bytes p.0 q.0)))
+answered_once bytes (Ok m) (Err (stops.Fault n w)) p q = absurd (Spells-clean m bytes (fault n w) p.0 q.1.fault)
+answered_once bytes (Err (stops.Fault n w)) (Ok m) p q = absurd (Spells-clean m bytes (fault n w) q.0 p.1.fault)
+answered_once bytes (Err (stops.Fault n w)) (Err (stops.Fault m v)) p q = inr (inr (same_fault bytes n w m v p.1 q.1))

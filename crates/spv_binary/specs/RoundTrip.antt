@@ -1,8 +1,9 @@
 -- What is written is read again, and what is read is written again.
-use Rattle.std.specs.Prelude.{◌≡◌, ℕ, ◌<◌, ◌⊎◌, Bool, List, get_or, Result, IfOk, IfErr}
+use Rattle.std.specs.Prelude.{◌≡◌, ℕ, ◌<◌, ◌⊎◌, Bool, List, get_or, Result, Err, IfOk, IfErr}
 use Rattle.spv_module.specs.declared.module.Module.{Module}
 use Rattle.spv_module.specs.Words.{module_words, IsSpelled, Spells}
 use Rattle.spv_binary.specs.declared.stop.ReadStop.{ReadStop}
+use Rattle.spv_binary.specs.declared.stop.ReadStop.TheVariants as stop
 use Rattle.spv_binary.specs.Faults.{Fault, words_of, is_high_first, Broken, IsFirst}
 use Rattle.spv_binary.specs.Reading.{Answers, IsFaultOf}
 
@@ -37,6 +38,10 @@ SpelledOrBroken = (bytes : List ℕ) → AreBytes bytes → ((m : Module) × Spe
 -- What may be answered of bytes: a module that they spell, their first fault, or want of memory.
 abbrev pub IsAnswer : List ℕ → Result Module ReadStop → Type 0
 IsAnswer bytes r = IfOk r (λ m. Spells m bytes) × IfErr r (IsFaultOf bytes)
+
+-- Whatever is answered is the one thing to answer, want of memory apart.
+abbrev pub AnsweredOnce : Type 0
+AnsweredOnce = (bytes : List ℕ) (r s : Result Module ReadStop) → IsAnswer bytes r → IsAnswer bytes s → (r ≡ Err stop.NoMemory) ⊎ ((s ≡ Err stop.NoMemory) ⊎ (r ≡ s))
 
 -- A module's words, in this order of bytes, are read as that module.
 abbrev pub WrittenIsRead : (List ℕ → List ℕ) → Type 0

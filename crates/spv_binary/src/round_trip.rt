@@ -2,7 +2,7 @@
 
 ghost use Rattle.std.specs.Prelude.{false, true};
 ghost use Rattle.spv_module.specs.Words.{big_endian, little_endian};
-ghost use Rattle.spv_binary.specs.RoundTrip.{ReadIsWritten, SpelledByItsWords, SpelledIsWhole, SpelledOnceInEachOrder, SpelledOrBroken, SpellsOne, WrittenIsAnswered, WrittenIsRead};
+ghost use Rattle.spv_binary.specs.RoundTrip.{AnsweredOnce, ReadIsWritten, SpelledByItsWords, SpelledIsWhole, SpelledOnceInEachOrder, SpelledOrBroken, SpellsOne, WrittenIsAnswered, WrittenIsRead};
 
 /// What [`write`](crate::write) gives is read by [`read`](crate::read) as the module that was
 /// written, unless memory runs out; so is the same with the bytes of each word reversed.
@@ -29,8 +29,9 @@ pub fn spelled_once()
     ensures whole { SpelledIsWhole }
 {}
 
-/// Bytes spell a module or break a rule, and first in one place: [`read`](crate::read) has something
-/// to answer of all bytes.
+/// Bytes spell a module or break a rule, and first in one place: so [`read`](crate::read) has one
+/// answer to give, unless memory runs out.
 pub fn spelled_or_broken()
-    ensures { SpelledOrBroken }
+    ensures some { SpelledOrBroken }
+    ensures one { AnsweredOnce }
 {}
