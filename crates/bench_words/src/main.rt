@@ -2,8 +2,9 @@
 //! prints how much there was. `bench/words.sh` times it.
 #![tactic(auto)]
 
-ghost use Rattle.std.specs.Prelude.{◌≡◌, false, IfOk};
+ghost use Rattle.std.specs.Prelude.{◌≡◌, false, IfOk, IfErr};
 ghost use Rattle.spv_binary.specs.Faults.{is_high_first};
+ghost use Rattle.spv_binary.specs.Reading.{IsFaultOf};
 
 use clv_io::{Files, HostFiles};
 use clv_place::Text;
@@ -16,7 +17,9 @@ use std::{env, io};
 /// The bytes of the module that is read.
 fn copy(alloc: Global, bytes: &[u8]) -> Result<Text, ReadStop>
     // Where the lowest byte of each word stands first, they come back as they were.
-    ensures { IfOk result (λ again. is_high_first bytes.now ≡ false → again ≡ bytes.now) }
+    ensures again { IfOk result (λ again. is_high_first bytes.now ≡ false → again ≡ bytes.now) }
+    // Nothing else stops it than what stops reading.
+    ensures first { IfErr result (IsFaultOf bytes.now) }
 {
     read_is_written();
     let module = read(alloc, bytes)?;
@@ -24,7 +27,9 @@ fn copy(alloc: Global, bytes: &[u8]) -> Result<Text, ReadStop>
 }
 
 /// How many bytes are loaded, instructions read, or bytes written.
-fn count(alloc: Global, step: &str, bytes: &[u8]) -> Result<usize, ReadStop> {
+fn count(alloc: Global, step: &str, bytes: &[u8]) -> Result<usize, ReadStop>
+    ensures { IfErr result (IsFaultOf bytes.now) }
+{
     match step {
         "load" => Ok(bytes.len()),
         "read" => Ok(read(alloc, bytes)?.body.len()),
