@@ -1,0 +1,10 @@
+pub mod Entries
+pub mod Functions
+pub mod Ids
+pub mod Layout
+pub mod Lines
+pub mod Rules
+pub mod Sections
+pub mod Types
+pub mod Values
+pub mod Variables
