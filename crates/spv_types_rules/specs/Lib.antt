@@ -1,6 +1,7 @@
 pub mod Entries
 pub mod Functions
 pub mod Ids
+pub mod Kernels
 pub mod Layout
 pub mod Lines
 pub mod Rules
