@@ -71,7 +71,7 @@ function_makes s id = s.here.inside && (makes (to_end s.before) id || makes (to_
 
 abbrev pub reaches : Spot → ℕ → Line → Bool
 reaches s id d =
-    if has_op_among value_opcodes d then block_makes false s.before id else (
+    if has_op_among value_opcodes d then s.here.inside && block_makes false s.before id else (
     if has_op op.VARIABLE d && d.inside then function_makes s id else true)
 
 abbrev pub may_use_by : Spot → ℕ → Option Line → Bool
