@@ -5,9 +5,14 @@ pub mod Decided
 pub mod Decimals
 pub mod Defined
 pub mod FactsInterface
+pub mod FactsLines
 pub mod FactsReflection
 pub mod FactsScans
 pub mod FactsSpelled
+pub mod FactsValid
+pub mod FactsValidIds
+pub mod FactsValidPlain
+pub mod FactsWalk
 pub mod Kernels
 pub mod Launches
 pub mod Literals
