@@ -31,7 +31,7 @@ lines_of k =
 -- the same, where it's open what defines the function: that stands behind the terms' constants
 abbrev lines_with : Kernel → Option Said → List Line
 lines_with k main =
-    or_wrong (function_by main >>= λ function. Some (KernelLine id.KERNEL_LINE function (k.name ∷ [])))
+    or_wrong id.KERNEL_LINE 1 (function_by main >>= λ function. Some (KernelLine id.KERNEL_LINE function (k.name ∷ [])))
     ∷ NameLine id.NAME_LINE (k.argument ∷ [])
     ∷ BufferLine id.BUFFER_LINE id.KERNEL_LINE 0 0 0 id.NAME_LINE
     ∷ SizesLine id.SIZES_LINE 0 1 2

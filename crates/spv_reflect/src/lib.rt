@@ -2,6 +2,14 @@
 //! (the extended instructions of NonSemantic.ClspvReflection.1).
 #![tactic(auto)]
 
+mod line;
+pub mod reading;
 pub mod rows;
+mod rules;
+pub mod stop;
+#[cfg(test)]
+mod tests;
 
+pub use reading::read_rows;
 pub use rows::{ArgKindRow, ArgRow, ConstantRow, KernelRow, Reflection};
+pub use stop::{ReflectStop, rule};
