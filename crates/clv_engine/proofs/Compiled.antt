@@ -8,6 +8,7 @@ use Rattle.clv_engine.specs.FirstForm.{IsIn}
 use Rattle.clv_engine.specs.Emitted.{module_of}
 use Rattle.clv_engine.specs.Command.{IsGood, IsCompiled}
 use Rattle.clv_engine.proofs.FactsSpelled.{is_spelled, small}
+use Rattle.clv_engine.proofs.FactsValid.{is_valid}
 use Rattle.clv_engine.proofs.FactsReflection.{reflection_agrees}
 use Rattle.clv_engine.proofs.FactsInterface.{interface_agrees}
 use Rattle.clv_engine.proofs.BindingFacts.{binding_agrees}
@@ -23,6 +24,7 @@ good : (text : List ℕ) (k : Kernel) → IsIn text k → IsGood text (module_of
 good text k i = record {
   kernel = k;
   accepted = i;
+  valid = is_valid k i.kernel;
   reflection = reflection_agrees k i.kernel;
   interface = interface_agrees k i.kernel;
   binding = binding_agrees k;

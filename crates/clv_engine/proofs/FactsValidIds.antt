@@ -177,8 +177,8 @@ kept_12 k =
     let struct : list_all (may_name_struct id.BLOCK) (behind k) ≡ true = all_by_steps (may_name_struct id.BLOCK) (the_whole k) (names_no_struct k) (behind_head k) (behind k) (walk k) in
     with_has (rule 12 keeps_arrays) (the_whole k)
     (from_walk keeps_arrays k
-      (ap (λ z. (z && true) && (list_all (may_name_struct id.BLOCK) (behind k) && others)) array ∙ ap (λ z. z && others) struct)
-      (keeps_12 k))
+    (ap (λ z. (z && true) && (list_all (may_name_struct id.BLOCK) (behind k) && others)) array ∙ ap (λ z. z && others) struct)
+    (keeps_12 k))
     refl
 
 -- ---- rule 22

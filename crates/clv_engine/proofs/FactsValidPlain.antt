@@ -186,4 +186,3 @@ keeps_44 k _ _ _ _ = refl
 
 pub kept_44 : (k : Kernel) → is_kept_in (rule 44 keeps_reflection) (the_whole k) ≡ true
 kept_44 k = with_has (rule 44 keeps_reflection) (the_whole k) (from_walk keeps_reflection k refl (keeps_44 k)) refl
-

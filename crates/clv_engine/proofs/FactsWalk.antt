@@ -179,10 +179,12 @@ AreConstants w next ts = (x n : ℕ) → HasConstant next ts x n → defined w x
 reached_on : (b : List Line) (l m : Line) (x : ℕ) → has_op op.LABEL l ≡ false → ends_function l ≡ false → ((y : ℕ) → block_makes true b y ≡ true) → IsReached b x m → IsReached (l ∷ b) x m
 reached_on b l m x e f h (inl p) = inl p
 reached_on b l m x e f h (inr p) =
-    inr (p.0,
+    inr (
+      p.0,
       ap (λ c. cond c false (cond (ends_function l) false (block_makes (defines x l) b x))) e
-      ∙ ap (λ c. cond c false (block_makes (defines x l) b x)) f
-      ∙ either_makes (defines x l) b x (h x) p.1)
+          ∙ ap (λ c. cond c false (block_makes (defines x l) b x)) f
+          ∙ either_makes (defines x l) b x (h x) p.1,
+    )
 
 uint_on : (w : Whole) (b : List Line) (l : Line) (x : ℕ) → has_op op.LABEL l ≡ false → ends_function l ≡ false → ((y : ℕ) → block_makes true b y ≡ true) → IsUint w b x → IsUint w (l ∷ b) x
 uint_on w b l x e f h u = record { line = u.line; found = u.found; valued = u.valued; kind = u.kind; typed = u.typed; reached = reached_on b l u.line x e f h u.reached; high = u.high }
@@ -255,30 +257,30 @@ module _ (w : Whole) where
       let s = after_id next b (here ∷ behind) p c (f next (omega arith) (apart_less (next + 3) ts next (omega arith))) (f (next + 1) (omega arith) (apart_less (next + 3) ts (next + 1) (omega arith))) e in
       let before = extract_line (next + 1) next ∷ (load_line next ∷ b) in
       let free : makes before (next + 2) ≡ false =
-          makes_skip (next + 1) (next + 2) (makes (load_line next ∷ b) (next + 2)) (λ q. omega arith)
-          (makes_skip next (next + 2) (makes b (next + 2)) (λ q. omega arith) (f (next + 2) (omega arith) (apart_less (next + 3) ts (next + 2) (omega arith)))) in
+      makes_skip (next + 1) (next + 2) (makes (load_line next ∷ b) (next + 2)) (λ q. omega arith)
+      (makes_skip next (next + 2) (makes b (next + 2)) (λ q. omega arith) (f (next + 2) (omega arith) (apart_less (next + 3) ts (next + 2) (omega arith)))) in
       let left : IsUint w before so_far = uint_on w (load_line next ∷ b) (extract_line (next + 1) next) so_far refl refl (code_on w b (load_line next) next refl p refl refl refl refl c).in_block (uint_on w b (load_line next) so_far refl refl c.in_block u) in
       let found : defined w (next + 2) ≡ Some (add_line (next + 2) so_far (next + 1)) = found_at w before (lines_from true behind) (add_line (next + 2) so_far (next + 1)) (next + 2) e free (eq_same (next + 2)) in
       step b (load_line next) (lines_from true (inst op.COMPOSITE_EXTRACT (Id id.UINT ∷ Id (next + 1) ∷ Id next ∷ Word 0 ∷ []) ∷ (here ∷ behind))) s.first
       (step (load_line next ∷ b) (extract_line (next + 1) next) (lines_from true (here ∷ behind)) s.second
       (step before (add_line (next + 2) so_far (next + 1)) (lines_from true behind) (add before (lines_from true behind) (next + 2) so_far (next + 1) refl free left s.uint)
       (walk_sums (next + 3) (next + 2) ts (add_line (next + 2) so_far (next + 1) ∷ before) rest (omega arith)
-        (code_on w before (add_line (next + 2) so_far (next + 1)) (next + 2) refl (omega arith) refl refl refl refl s.code)
-        (fresh_on_add (next + 3) (next + 2) so_far (next + 1) ts before (omega arith) (fresh_on_id next ts b f))
-        k
-        (made w before (next + 2) so_far (next + 1) s.code.in_block found (omega arith))
-        e more)))
+      (code_on w before (add_line (next + 2) so_far (next + 1)) (next + 2) refl (omega arith) refl refl refl refl s.code)
+      (fresh_on_add (next + 3) (next + 2) so_far (next + 1) ts before (omega arith) (fresh_on_id next ts b f))
+      k
+      (made w before (next + 2) so_far (next + 1) s.code.in_block found (omega arith))
+      e more)))
   walk_sums next so_far (Literal n ∷ ts) b rest p c f k u e more =
       let behind = sums_from (next + 3) (next + 2) ts ++ rest in
       let free : makes b (next + 2) ≡ false = f (next + 2) (omega arith) (λ q. omega arith, apart_less (next + 3) ts (next + 2) (omega arith)) in
       let found : defined w (next + 2) ≡ Some (add_line (next + 2) so_far next) = found_at w b (lines_from true behind) (add_line (next + 2) so_far next) (next + 2) e free (eq_same (next + 2)) in
       step b (add_line (next + 2) so_far next) (lines_from true behind) (add b (lines_from true behind) (next + 2) so_far next (c.ordered (add_line (next + 2) so_far next) refl) free u (literal_uint next n ts b p k))
       (walk_sums (next + 3) (next + 2) ts (add_line (next + 2) so_far next ∷ b) rest (omega arith)
-        (code_on w b (add_line (next + 2) so_far next) (next + 2) refl (omega arith) refl refl refl refl c)
-        (fresh_on_add (next + 3) (next + 2) so_far next ts b (omega arith) (fresh_on_literal next n ts b f))
-        (λ x m h. k x m (inr h))
-        (made w b (next + 2) so_far next c.in_block found (omega arith))
-        e more)
+      (code_on w b (add_line (next + 2) so_far next) (next + 2) refl (omega arith) refl refl refl refl c)
+      (fresh_on_add (next + 3) (next + 2) so_far next ts b (omega arith) (fresh_on_literal next n ts b f))
+      (λ x m h. k x m (inr h))
+      (made w b (next + 2) so_far next c.in_block found (omega arith))
+      e more)
 
   walk_terms : (ts : List Term) (b : List Line) (rest : List Inst) → IsCode w b → IsFresh id.TERMS ts b → AreConstants w id.TERMS ts → IsUint w b id.ZERO → w.lines ≡ onto b (lines_from true (terms ts ++ rest))
       → ((c : List Line) → IsCode w c → IsUint w c (sum ts) → w.lines ≡ onto c (lines_from true rest) → Walk w c (lines_from true rest))
@@ -344,10 +346,11 @@ eq_when r x e = ap (λ y. nat_eq r y) (sym e) ∙ eq_same r
 defined_constant : (next : ℕ) (ts : List Term) (rest : List Inst) (x n : ℕ) → HasConstant next ts x n → (next ≤ x) × (find (defines x) (lines_from false (constants_from next ts ++ rest)) ≡ Some (const_line x n))
 defined_constant next [] rest x n h = absurd h
 defined_constant next (GlobalId ∷ ts) rest x n h = let d = defined_constant (next + 3) ts rest x n h in (omega arith, d.1)
-defined_constant next (Literal m ∷ ts) rest x n (inl p) =
-    (omega arith,
-      ap (λ c. cond c (Some (const_line next m)) (find (defines x) (lines_from false (constants_from (next + 3) ts ++ rest)))) (eq_when next x (sym p.0))
-      ∙ ap (λ y. Some (const_line y m)) (sym p.0) ∙ ap (λ y. Some (const_line x y)) (sym p.1))
+defined_constant next (Literal m ∷ ts) rest x n (inl p) = (
+  omega arith,
+  ap (λ c. cond c (Some (const_line next m)) (find (defines x) (lines_from false (constants_from (next + 3) ts ++ rest)))) (eq_when next x (sym p.0))
+      ∙ ap (λ y. Some (const_line y m)) (sym p.0) ∙ ap (λ y. Some (const_line x y)) (sym p.1),
+)
 defined_constant next (Literal m ∷ ts) rest x n (inr h) =
     let d = defined_constant (next + 3) ts rest x n h in
     (omega arith, ap (λ c. cond c (Some (const_line next m)) (find (defines x) (lines_from false (constants_from (next + 3) ts ++ rest)))) (ne_eqb next x (λ e. omega arith)) ∙ d.1)
@@ -389,9 +392,9 @@ module _ (k : Kernel) where
   place_code = record {
     ordered = λ l e. e;
     low = λ x p q. makes_skip (id.PLACE + 1) x (makes (load_line id.PLACE ∷ (label_line ∷ (main_line ∷ front))) x) (λ e. omega arith)
-      (makes_skip id.PLACE x (makes (label_line ∷ (main_line ∷ front)) x) (λ e. omega arith)
-      (makes_skip id.ENTRY x (makes (main_line ∷ front) x) (λ e. omega arith)
-      (makes_skip id.MAIN x (makes front x) (λ e. omega arith) (front_makes_none x q (head_makes_none k x (omega arith))))));
+        (makes_skip id.PLACE x (makes (label_line ∷ (main_line ∷ front)) x) (λ e. omega arith)
+        (makes_skip id.ENTRY x (makes (main_line ∷ front) x) (λ e. omega arith)
+        (makes_skip id.MAIN x (makes front x) (λ e. omega arith) (front_makes_none x q (head_makes_none k x (omega arith))))));
     in_block = λ x. refl;
     place = record { line = extract_line (id.PLACE + 1) id.PLACE; found = extract_found; valued = refl; kind = refl; typed = refl; reached = inr (refl, refl); high = omega arith };
     returns = refl;

@@ -7,6 +7,7 @@ use Rattle.spv_module.specs.Words.{module_words, SpellsLittle}
 use Rattle.clv_io.specs.Faults.{Rose}
 use Rattle.clv_io.specs.Files.{FilesState, IsSameKind, HoldsTheSame, IsTooLarge, IsCutShort, Lacks}
 use Rattle.clv_io.specs.Sink.{SinkState, Gains, GainsFront}
+use Rattle.spv_types_rules.specs.Rules.{IsValid}
 use Rattle.clv_engine.specs.declared.form.Kernel.{Kernel}
 use Rattle.clv_engine.specs.FirstForm.{IsIn, IsOut}
 use Rattle.clv_engine.specs.KernelRows.{ReflectionAgrees}
@@ -25,10 +26,11 @@ pub record IsCompile (words : List (List ℕ)) (source target : List ℕ) : Type
   pub source_word : is_file_word source ≡ true
   pub target_word : is_file_word target ≡ true
 
--- A module that is good for a text: the text is accepted as a kernel, the reflection and the interface are the kernel's, launches bind to it as they fit the kernel, and the module serves each of its work-items, and all of them together in any order. Two bounds.
+-- A module that is good for a text: the text is accepted as a kernel, the module is valid, the reflection and the interface are the kernel's, launches bind to it as they fit the kernel, and the module serves each of its work-items, and all of them together in any order. Two bounds.
 pub record IsGood (text : List ℕ) (m : Module) : Type 0 where
   pub kernel : Kernel
   pub accepted : IsIn text kernel
+  pub valid : IsValid m.body
   pub reflection : ReflectionAgrees m.body kernel
   pub interface : InterfaceAgrees m.body kernel
   pub binding : BindingAgrees m.body kernel
