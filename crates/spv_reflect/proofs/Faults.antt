@@ -74,7 +74,7 @@ module _ (rule : ℕ) (all : List Line) (body : List Inst) where
     split = ap (λ (js : List Inst). i ∷ js) b.split;
     stands = ap suc b.stands;
     reads = b.reads;
-    broken = subst (λ (ls : List Line). keeps rule all ls b.line ≡ false) (next-behind seen (here i) (lines_in body b.before)) b.broken
+    broken = subst (λ (ls : List Line). keeps rule all ls b.line ≡ false) (next-behind seen (here i) (lines_in body b.before)) b.broken;
   }
 
   -- a break is at the first instruction or behind it
@@ -92,8 +92,8 @@ module _ (rule : ℕ) (all : List Line) (body : List Inst) where
       let same : j ≡ i = cc in
       let tail : is ≡ before ++ inst ∷ after = cc in
       let kept : keeps rule all (next seen (here i) ++ lines_in body before) line ≡ false =
-          subst (λ (ls : List Line). keeps rule all ls line ≡ false) (sym (next-behind seen (here i) (lines_in body before)))
-          (subst (λ (k : Inst). keeps rule all (seen ++ with_line (here k) (lines_in body before)) line ≡ false) same broken) in
+      subst (λ (ls : List Line). keeps rule all ls line ≡ false) (sym (next-behind seen (here i) (lines_in body before)))
+      (subst (λ (k : Inst). keeps rule all (seen ++ with_line (here k) (lines_in body before)) line ≡ false) same broken) in
       inr (record { n = length before; more = stands; breaks = record { before = before; inst = inst; after = after; line = line; split = tail; stands = refl; reads = reads; broken = kept } })
 
   first_or_later : (seen : List Line) (i : Inst) (is : List Inst) (count : ℕ) → BreaksIn seen (i ∷ is) count → (keeps_here seen (here i) ≡ false) ⊎ IsLater (next seen (here i)) is count

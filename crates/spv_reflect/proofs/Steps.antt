@@ -40,11 +40,11 @@ reading_on : (body : List Inst) (lines new : List PlacedLine) (at : ℕ) (i : In
 reading_on body lines new at i is o h read added =
     let next : at + 1 ≡ suc at = omega arith in
     let e : placed_by new ++ lines_from body (suc at) is ≡ lines_from body 0 body =
-        ap (λ ps. ps ++ lines_from body (suc at) is) added
-        ∙ append_assoc (placed_by lines) (placed_at at (option_map line_by o) []) (lines_from body (suc at) is)
-        ∙ ap (λ ps. placed_by lines ++ ps) (placed-behind at (option_map line_by o) (lines_from body (suc at) is))
-        ∙ ap (λ (p : Option Line). placed_by lines ++ placed_at at p (lines_from body (suc at) is)) read
-        ∙ h.so_far in
+    ap (λ ps. ps ++ lines_from body (suc at) is) added
+    ∙ append_assoc (placed_by lines) (placed_at at (option_map line_by o) []) (lines_from body (suc at) is)
+    ∙ ap (λ ps. placed_by lines ++ ps) (placed-behind at (option_map line_by o) (lines_from body (suc at) is))
+    ∙ ap (λ (p : Option Line). placed_by lines ++ placed_at at p (lines_from body (suc at) is)) read
+    ∙ h.so_far in
     record { stands = omega (arith, h.stands); so_far = ap (λ n. placed_by new ++ lines_from body n is) next ∙ e }
 
 pub reading_more : (body : List Inst) (lines new : List PlacedLine) (at : ℕ) (rest : List Inst) (i : Inst) (o : Option Reading) → IsReading body lines at rest → 1 ≤ length rest → i ≡ get_or rest 0 i → option_map line_by o ≡ line_of body (said i) → placed_by new ≡ placed_by lines ++ placed_at at (option_map line_by o) [] → IsReading body new (at + 1) (take (length rest - 1) (drop 1 rest))
@@ -77,7 +77,7 @@ judging_on rule lines at x xs h kept =
       so_far =
           ap (λ (ls : List Line). first_break rule (lines_by lines) ls (placed_by xs)) seen
           ∙ sym (chosen (keeps rule (lines_by lines) (lines_by (take at lines)) (line_by x.line)) (first_break rule (lines_by lines) (lines_by (take at lines) ++ line_by x.line ∷ []) (placed_by xs)) (Some x.place) kept)
-          ∙ h.so_far
+          ∙ h.so_far;
     }
 
 pub judging_more : (rule : ℕ) (lines : List PlacedLine) (at : ℕ) (rest : List PlacedLine) (l : PlacedLine) → IsJudging rule lines at rest → 1 ≤ length rest → l ≡ get_or rest 0 l → true ≡ keeps rule (lines_by lines) (lines_by (take at lines)) (line_by l.line) → IsJudging rule lines (at + 1) (take (length rest - 1) (drop 1 rest))

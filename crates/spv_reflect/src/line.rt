@@ -57,8 +57,11 @@ pub struct PlacedLine<'a> {
 /// The numbers of the lines (NonSemantic.ClspvReflection.1).
 pub mod number {
     pub const KERNEL: u32 = 1;
+
     pub const ARGUMENT_INFO: u32 = 2;
+
     pub const ARGUMENT_STORAGE_BUFFER: u32 = 3;
+
     pub const SPEC_CONSTANT_WORKGROUP_SIZE: u32 = 12;
 }
 
@@ -103,7 +106,8 @@ fn is_reflection(body: &[Inst], id: u32) -> bool
     ensures { result ≡ spec.is_reflection (definition_in body.now id) }
 {
     match definition(body, id) {
-        Some(Said::Import { name, .. }) => name.as_slice() == b"NonSemantic.ClspvReflection.1".as_slice(),
+        Some(Said::Import { name, .. }) => name.as_slice()
+            == b"NonSemantic.ClspvReflection.1".as_slice(),
         _ => false,
     }
 }
@@ -182,7 +186,11 @@ fn sizes_line<'a>(body: &'a [Inst], id: u32, operands: &[u32]) -> Line<'a>
 fn three_numbers(body: &[Inst], a: u32, b: u32, c: u32) -> Option<(u32, u32, u32)>
     ensures { result ≡ numbers_read body.now a b c }
 {
-    Some((number_at(body, a)?, number_at(body, b)?, number_at(body, c)?))
+    Some((
+        number_at(body, a)?,
+        number_at(body, b)?,
+        number_at(body, c)?,
+    ))
 }
 
 // The line of a number, with these ids as its operands.
@@ -213,11 +221,7 @@ fn ids(alloc: Global, operands: &[Operand]) -> Result<List<u32>, NoMemory>
 }
 
 // The line that an instruction is, where it is one.
-fn line_of<'a>(
-    alloc: Global,
-    body: &'a [Inst],
-    inst: &Inst,
-) -> Result<Option<Line<'a>>, NoMemory>
+fn line_of<'a>(alloc: Global, body: &'a [Inst], inst: &Inst) -> Result<Option<Line<'a>>, NoMemory>
     ensures { IfOk result (λ line. option_map line_read line ≡ spec.line_of body.now (said inst.now)) }
 {
     match inst.says() {

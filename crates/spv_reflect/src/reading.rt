@@ -1,7 +1,7 @@
 //! The rows of a module, read from its reflection lines.
 
-ghost use Rattle.std.specs.Prelude.{◌≡◌, Some, None, IfOk, IfErr, ◌↔◌};
-ghost use Rattle.spv_module.specs.Words.{IsSpelled};
+ghost use Rattle.std.specs.Prelude.{◌≡◌, ◌<◌, ◌^◌, length, Some, None, IfOk, IfErr, ◌↔◌};
+ghost use Rattle.spv_module.specs.Words.{module_words};
 ghost use Rattle.spv_reflect.specs.declared.rows.Reflection.{Reflection as Rows};
 ghost use Rattle.spv_reflect.specs.Reflection as spec;
 ghost use Rattle.spv_reflect.specs.Readings.{lines_by, Answers, IsFaultOf, IsBroken};
@@ -107,7 +107,8 @@ fn rows(alloc: Global, lines: &[PlacedLine<'_>]) -> Result<Reflection, NoMemory>
 /// What the reflection lines of a module say, or the least rule of [`crate::rule`] that a line breaks, at
 /// the first line that breaks it.
 pub fn read_rows(alloc: Global, module: &Module) -> Result<Reflection, ReflectStop>
-    requires { IsSpelled «module».now }
+    // A word's index has 32 bits, as in each module that is spelled.
+    requires { length (module_words «module».now) < 2 ^ 32 }
     // What is read are the rows.
     ensures found { IfOk result (λ r. spec.rows_of «module».now.body ≡ Some r) }
     // Where there are rows, they are read, unless memory runs out.
@@ -121,7 +122,7 @@ pub fn read_rows(alloc: Global, module: &Module) -> Result<Reflection, ReflectSt
 }
 
 fn read_all(alloc: Global, module: &Module) -> Result<Reflection, ReflectStop>
-    requires { IsSpelled «module».now }
+    requires { length (module_words «module».now) < 2 ^ 32 }
     ensures found { IfOk result (λ r. spec.rows_of «module».now.body ≡ Some r) }
     ensures first { IfErr result (IsFaultOf «module».now.body) }
 {

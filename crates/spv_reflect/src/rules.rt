@@ -91,18 +91,15 @@ fn is_in_order(before: &[PlacedLine<'_>], line: &Line<'_>) -> bool
 {
     match *line {
         Line::Buffer {
-            kernel, ordinal, ..
+            kernel,
+            ordinal,
+            ..
         } => ordinal as usize == arguments_among(kernel, before),
         _ => true,
     }
 }
 
-fn keeps(
-    rule: u8,
-    all: &[PlacedLine<'_>],
-    before: &[PlacedLine<'_>],
-    line: &Line<'_>,
-) -> bool
+fn keeps(rule: u8, all: &[PlacedLine<'_>], before: &[PlacedLine<'_>], line: &Line<'_>) -> bool
     ensures { result ≡ spec.keeps rule (lines_by all.now) (lines_by before.now) (line_read line.now) }
 {
     match rule {

@@ -1,1 +1,362 @@
 //! Modules, and what they read as.
+
+ghost use Rattle.std.specs.Prelude.{◌≡◌, ◌+◌, ◌<◌, ◌^◌, length, true, IfSome};
+ghost use Rattle.std.specs.List.{flat_map};
+ghost use Rattle.spv_module.specs.Words.{body_words, module_words, operand_words};
+
+use crate::reading::read_rows;
+use crate::rows::{ArgKindRow, Reflection};
+use crate::stop::ReflectStop;
+use clv_place::{List, NoMemory, Text};
+use spv_module::module::VERSION;
+use spv_module::{Inst, Module, Operand, op};
+use std::alloc::Global;
+use std::test::Fail;
+
+// An operand: an id, a literal word or a string.
+enum Part {
+    I(u32),
+    W(u32),
+    S(&'static [u8]),
+}
+
+use Part::{I, S, W};
+
+// An instruction, and a reflection line of the id, the set, the number and the operands.
+type Written = (u16, &'static [Part]);
+
+type Line = (u32, u32, u32, &'static [u32]);
+
+// 78 words with the header. 4 is the set of reflection, 5 to 7 are strings, 8 to 10 the numbers 0, 1 and 2, 11
+// and 16 functions, 13 a constant of 16 bits, 14 a specialisation constant, and 15 another set.
+const BASE: [Written; 18] = [
+    (
+        op::EXT_INST_IMPORT,
+        &[I(4), S(b"NonSemantic.ClspvReflection.1")],
+    ),
+    (op::EXT_INST_IMPORT, &[I(15), S(b"NonSemantic.DebugPrintf")]),
+    (op::STRING, &[I(5), S(b"k")]),
+    (op::STRING, &[I(6), S(b"a")]),
+    (op::STRING, &[I(7), S(b"beta")]),
+    (op::TYPE_VOID, &[I(1)]),
+    (op::TYPE_FUNCTION, &[I(2), I(1)]),
+    (op::TYPE_INT, &[I(3), W(32), W(0)]),
+    (op::TYPE_INT, &[I(12), W(16), W(0)]),
+    (op::CONSTANT, &[I(3), I(8), W(0)]),
+    (op::CONSTANT, &[I(3), I(9), W(1)]),
+    (op::CONSTANT, &[I(3), I(10), W(2)]),
+    (op::CONSTANT, &[I(12), I(13), W(1)]),
+    (op::SPEC_CONSTANT, &[I(3), I(14), W(1)]),
+    (op::FUNCTION, &[I(1), I(11), W(0), I(2)]),
+    (op::FUNCTION_END, &[]),
+    (op::FUNCTION, &[I(1), I(16), W(0), I(2)]),
+    (op::FUNCTION_END, &[]),
+];
+
+// The index of the first word behind those.
+const BEHIND: u32 = 78;
+
+fn inst(alloc: Global, op: u16, parts: &[Part]) -> Result<Inst, NoMemory> {
+    let mut operands = List::new(alloc);
+    for part in parts {
+        operands.push(match part {
+            I(id) => Operand::Id(*id),
+            W(word) => Operand::Word(*word),
+            S(text) => Operand::Str(Text::from_bytes(alloc, text)?),
+        })?;
+    }
+    Ok(Inst { op, operands })
+}
+
+fn line_inst(alloc: Global, line: &Line) -> Result<Inst, NoMemory> {
+    let (id, set, number, ids) = line;
+    let mut operands = List::new(alloc);
+    operands.push(Operand::Id(1))?;
+    operands.push(Operand::Id(*id))?;
+    operands.push(Operand::Id(*set))?;
+    operands.push(Operand::Word(*number))?;
+    for id in *ids {
+        operands.push(Operand::Id(*id))?;
+    }
+    Ok(Inst {
+        op: op::EXT_INST,
+        operands,
+    })
+}
+
+// A module of the base with reflection lines behind it.
+fn module_of(alloc: Global, lines: &[Line]) -> Result<Module, NoMemory> {
+    let mut body = List::new(alloc);
+    for (op, parts) in &BASE {
+        body.push(inst(alloc, *op, parts)?)?;
+    }
+    for line in lines {
+        body.push(line_inst(alloc, line)?)?;
+    }
+    Ok(Module {
+        version: VERSION,
+        generator: 0,
+        bound: 64,
+        body,
+    })
+}
+
+#[tactic(auto, using(crate::proofs::Sizes::string_lengths))]
+fn operand_len(operand: &Operand) -> usize
+    ensures { result ≡ length (operand_words operand.now) }
+{
+    match operand {
+        Operand::Id(_) => 1,
+        Operand::Word(_) => 1,
+        Operand::Str(text) => text.len() / 4 + 1,
+    }
+}
+
+// What is left of so many words behind some operands.
+fn behind_operands(words: usize, operands: &[Operand]) -> Option<usize>
+    ensures { IfSome result (λ left. length (flat_map operand_words operands.now) + left ≡ words) }
+{
+    let mut left = words;
+    let mut rest = operands;
+    while let [operand, others @ ..] = rest {
+        left = left.checked_sub(operand_len(operand))?;
+        rest = others;
+    }
+    Some(left)
+}
+
+// What is left of so many words behind some instructions.
+fn behind_insts(words: usize, insts: &[Inst]) -> Option<usize>
+    ensures { IfSome result (λ left. length (body_words insts.now) + left ≡ words) }
+{
+    let mut left = words;
+    let mut rest = insts;
+    while let [inst, others @ ..] = rest {
+        left = behind_operands(left.checked_sub(1)?, inst.operands.as_slice())?;
+        rest = others;
+    }
+    Some(left)
+}
+
+fn read(rt: HostRuntime, lines: &[Line]) -> Result<Result<Reflection, ReflectStop>, Fail> {
+    let module = module_of(rt.alloc(), lines)?;
+    let Some(_left) = behind_insts(10_000, module.body.as_slice()) else {
+        return Err("too long".into());
+    };
+    Ok(read_rows(rt.alloc(), &module))
+}
+
+// Two kernels with their lines mixed, names behind the arguments, and a line of another set.
+const MIXED: [Line; 11] = [
+    (20, 4, 12, &[8, 9, 10]),
+    (21, 4, 3, &[31, 8, 8, 9, 25]),
+    (22, 4, 1, &[16, 7]),
+    (23, 4, 3, &[22, 8, 10, 8, 24]),
+    (24, 4, 2, &[7]),
+    (25, 4, 2, &[6]),
+    (26, 15, 77, &[5, 8]),
+    (27, 4, 3, &[31, 9, 8, 10, 24]),
+    (31, 4, 1, &[11, 5]),
+    (28, 4, 3, &[22, 9, 9, 9, 25]),
+    (29, 4, 3, &[31, 10, 9, 8, 24]),
+];
+
+#[test]
+fn reads_the_rows(rt: HostRuntime) -> Result<(), Fail> {
+    let rows = read(rt, &MIXED)?.ok().ok_or("refused")?;
+    assert_eq!(rt; rows.sizes, Some([0, 1, 2]));
+    assert_eq!(rt; rows.dim, None);
+    assert!(rt; rows.constants.is_none());
+    let [first, second] = rows.kernels.as_slice() else {
+        return Err("not two kernels".into());
+    };
+    assert_eq!(rt; (first.function, second.function), (16, 11));
+    assert_eq!(rt; first.name.as_slice(), b"beta".as_slice());
+    assert_eq!(rt; second.name.as_slice(), b"k".as_slice());
+    assert_eq!(rt; (first.required, second.required), (None, None));
+    let [a, b] = first.args.as_slice() else {
+        return Err("not two arguments".into());
+    };
+    assert_eq!(rt; a.name.as_slice(), b"beta".as_slice());
+    assert_eq!(rt; a.kind, ArgKindRow::Buffer { set: 2, binding: 0 });
+    assert_eq!(rt; b.name.as_slice(), b"a".as_slice());
+    assert_eq!(rt; b.kind, ArgKindRow::Buffer { set: 1, binding: 1 });
+    let [a, b, c] = second.args.as_slice() else {
+        return Err("not three arguments".into());
+    };
+    assert_eq!(rt; a.name.as_slice(), b"a".as_slice());
+    assert_eq!(rt; a.kind, ArgKindRow::Buffer { set: 0, binding: 1 });
+    assert_eq!(rt; b.name.as_slice(), b"beta".as_slice());
+    assert_eq!(rt; b.kind, ArgKindRow::Buffer { set: 0, binding: 2 });
+    assert_eq!(rt; c.kind, ArgKindRow::Buffer { set: 1, binding: 0 });
+    Ok(())
+}
+
+#[test]
+fn reads_a_module_without_lines(rt: HostRuntime) -> Result<(), Fail> {
+    let rows = read(rt, &[])?.ok().ok_or("refused")?;
+    assert!(rt; rows.kernels.is_empty());
+    assert_eq!(rt; rows.sizes, None);
+    Ok(())
+}
+
+// Lines, the rule that one breaks, and its first word behind those of the base. A line has five words and
+// one for each operand.
+type Refused = (&'static [Line], u8, u32);
+
+const REFUSED: [Refused; 33] = [
+    // other numbers
+    (&[(20, 4, 0, &[])], 1, 0),
+    (&[(20, 4, 4, &[21, 8, 8, 8, 22])], 1, 0),
+    (&[(20, 4, 15, &[8, 8])], 1, 0),
+    (&[(20, 4, 1, &[11, 5]), (21, 4, 13, &[])], 1, 7),
+    // a kernel whose function is none, or whose name is no string; too few and too many operands
+    (&[(20, 4, 1, &[5, 5])], 2, 0),
+    (&[(20, 4, 1, &[11, 8])], 2, 0),
+    (&[(20, 4, 1, &[11])], 2, 0),
+    (&[(20, 4, 1, &[11, 5, 8])], 2, 0),
+    (&[(20, 4, 1, &[63, 5])], 2, 0),
+    // a name that is no string; too few and too many operands
+    (&[(20, 4, 2, &[11])], 2, 0),
+    (&[(20, 4, 2, &[])], 2, 0),
+    (&[(20, 4, 2, &[5, 5])], 2, 0),
+    // an argument of no kernel: of a function, of a name and of nothing
+    (&[(20, 4, 2, &[5]), (21, 4, 3, &[11, 8, 8, 8, 20])], 2, 6),
+    (&[(20, 4, 2, &[5]), (21, 4, 3, &[20, 8, 8, 8, 20])], 2, 6),
+    (&[(20, 4, 2, &[5]), (21, 4, 3, &[63, 8, 8, 8, 20])], 2, 6),
+    // an argument with no name: with a string, a kernel, and a line of another set
+    (&[(20, 4, 1, &[11, 5]), (21, 4, 3, &[20, 8, 8, 8, 5])], 2, 7),
+    (
+        &[(20, 4, 1, &[11, 5]), (21, 4, 3, &[20, 8, 8, 8, 20])],
+        2,
+        7,
+    ),
+    (
+        &[
+            (20, 4, 1, &[11, 5]),
+            (22, 15, 2, &[5]),
+            (21, 4, 3, &[20, 8, 8, 8, 22]),
+        ],
+        2,
+        13,
+    ),
+    // an ordinal of 16 bits, a set that may be specialised, a binding that is a string
+    (
+        &[
+            (20, 4, 1, &[11, 5]),
+            (21, 4, 2, &[5]),
+            (22, 4, 3, &[20, 13, 8, 8, 21]),
+        ],
+        2,
+        13,
+    ),
+    (
+        &[
+            (20, 4, 1, &[11, 5]),
+            (21, 4, 2, &[5]),
+            (22, 4, 3, &[20, 8, 14, 8, 21]),
+        ],
+        2,
+        13,
+    ),
+    (
+        &[
+            (20, 4, 1, &[11, 5]),
+            (21, 4, 2, &[5]),
+            (22, 4, 3, &[20, 8, 8, 5, 21]),
+        ],
+        2,
+        13,
+    ),
+    // too few and too many operands of an argument
+    (
+        &[
+            (20, 4, 1, &[11, 5]),
+            (21, 4, 2, &[5]),
+            (22, 4, 3, &[20, 8, 8, 21]),
+        ],
+        2,
+        13,
+    ),
+    (
+        &[
+            (20, 4, 1, &[11, 5]),
+            (21, 4, 2, &[5]),
+            (22, 4, 3, &[20, 8, 8, 8, 21, 21]),
+        ],
+        2,
+        13,
+    ),
+    // sizes
+    (&[(20, 4, 12, &[8, 9])], 2, 0),
+    (&[(20, 4, 12, &[8, 9, 10, 10])], 2, 0),
+    (&[(20, 4, 12, &[8, 9, 14])], 2, 0),
+    // ordinals: the first is 1; 0 comes twice; 1 is left out; another kernel's are counted
+    (
+        &[
+            (20, 4, 1, &[11, 5]),
+            (21, 4, 2, &[5]),
+            (22, 4, 3, &[20, 9, 8, 8, 21]),
+        ],
+        4,
+        13,
+    ),
+    (
+        &[
+            (20, 4, 1, &[11, 5]),
+            (21, 4, 2, &[5]),
+            (22, 4, 3, &[20, 8, 8, 8, 21]),
+            (23, 4, 3, &[20, 8, 8, 9, 21]),
+        ],
+        4,
+        23,
+    ),
+    (
+        &[
+            (20, 4, 1, &[11, 5]),
+            (21, 4, 2, &[5]),
+            (22, 4, 3, &[20, 8, 8, 8, 21]),
+            (23, 4, 3, &[20, 10, 8, 9, 21]),
+        ],
+        4,
+        23,
+    ),
+    (
+        &[
+            (20, 4, 1, &[11, 5]),
+            (30, 4, 1, &[16, 7]),
+            (21, 4, 2, &[5]),
+            (22, 4, 3, &[20, 8, 8, 8, 21]),
+            (23, 4, 3, &[30, 9, 8, 8, 21]),
+        ],
+        4,
+        30,
+    ),
+    // the least rule before the first line, and of one rule the first line
+    (&[(20, 4, 1, &[11]), (21, 4, 9, &[])], 1, 6),
+    (
+        &[
+            (20, 4, 1, &[11, 5]),
+            (21, 4, 2, &[5]),
+            (22, 4, 3, &[20, 9, 8, 8, 21]),
+            (23, 4, 12, &[8]),
+        ],
+        2,
+        23,
+    ),
+    (&[(20, 4, 12, &[8]), (21, 4, 12, &[9])], 2, 0),
+];
+
+#[test]
+fn refuses_lines(rt: HostRuntime) -> Result<(), Fail> {
+    for (lines, number, word) in REFUSED {
+        let stop = read(rt, lines)?.err();
+        let word = word + BEHIND;
+        assert_eq!(rt;
+            stop,
+            Some(ReflectStop::Fault { number, word }),
+            "{number} at {word}"
+        );
+    }
+    Ok(())
+}
