@@ -10,6 +10,6 @@ pub mod stop;
 #[cfg(test)]
 mod tests;
 
-pub use reading::read_rows;
+pub use reading::{read_reflection, read_rows};
 pub use rows::{ArgKindRow, ArgRow, ConstantRow, KernelRow, Reflection};
 pub use stop::{ReflectStop, rule};

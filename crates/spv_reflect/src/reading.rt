@@ -13,6 +13,7 @@ use crate::stop::ReflectStop;
 use clv_place::{List, NoMemory, Text};
 use spv_module::Module;
 use spv_module::size::word_at;
+use spv_types_rules::Checked;
 use std::alloc::Global;
 
 // The name that the line with this id says, and none where there is no such line.
@@ -104,18 +105,28 @@ fn rows(alloc: Global, lines: &[PlacedLine<'_>]) -> Result<Reflection, NoMemory>
     })
 }
 
-/// What the reflection lines of a module say, or the least rule of [`crate::rule`] that a line breaks, at
-/// the first line that breaks it.
-pub fn read_rows(alloc: Global, module: &Module) -> Result<Reflection, ReflectStop>
-    // A word's index has 32 bits, as in each module that is spelled.
-    requires { length (module_words «module».now) < 2 ^ 32 }
+/// What the reflection lines of a module say (NonSemantic.ClspvReflection.1), or the least rule of
+/// [`crate::rule`] that a line breaks, at the first line that breaks it.
+pub fn read_reflection(alloc: Global, checked: &Checked) -> Result<Reflection, ReflectStop>
     // What is read are the rows.
-    ensures found { IfOk result (λ r. spec.rows_of «module».now.body ≡ Some r) }
+    ensures found { IfOk result (λ r. spec.rows_of checked.now.body ≡ Some r) }
     // Where there are rows, they are read, unless memory runs out.
-    ensures only { (r : Rows) → spec.rows_of «module».now.body ≡ Some r → Answers r result }
+    ensures only { (r : Rows) → spec.rows_of checked.now.body ≡ Some r → Answers r result }
     // Which fault it is.
-    ensures first { IfErr result (IsFaultOf «module».now.body) }
+    ensures first { IfErr result (IsFaultOf checked.now.body) }
     // There are rows exactly where no rule is broken.
+    ensures whole { (spec.rows_of checked.now.body ≡ None) ↔ IsBroken checked.now.body }
+{
+    read_rows(alloc, checked.module())
+}
+
+/// The same of a module that isn't known to be valid.
+pub fn read_rows(alloc: Global, module: &Module) -> Result<Reflection, ReflectStop>
+    // A word's index has 32 bits, as in each module that bytes spell.
+    requires { length (module_words «module».now) < 2 ^ 32 }
+    ensures found { IfOk result (λ r. spec.rows_of «module».now.body ≡ Some r) }
+    ensures only { (r : Rows) → spec.rows_of «module».now.body ≡ Some r → Answers r result }
+    ensures first { IfErr result (IsFaultOf «module».now.body) }
     ensures whole { (spec.rows_of «module».now.body ≡ None) ↔ IsBroken «module».now.body }
 {
     read_all(alloc, module)
