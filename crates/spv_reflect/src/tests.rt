@@ -53,9 +53,6 @@ const BASE: [Written; 18] = [
     (op::FUNCTION_END, &[]),
 ];
 
-// The index of the first word behind those.
-const BEHIND: u32 = 78;
-
 fn inst(alloc: Global, op: u16, parts: &[Part]) -> Result<Inst, NoMemory> {
     let mut operands = List::new(alloc);
     for part in parts {
@@ -200,36 +197,40 @@ fn reads_a_module_without_lines(rt: HostRuntime) -> Result<(), Fail> {
     Ok(())
 }
 
-// Lines, the rule that one breaks, and its first word behind those of the base. A line has five words and
-// one for each operand.
+// Lines, the rule that one breaks, and the index of its first word. The first line has 78, and a line takes
+// five words and one for each operand.
 type Refused = (&'static [Line], u8, u32);
 
 const REFUSED: [Refused; 33] = [
     // other numbers
-    (&[(20, 4, 0, &[])], 1, 0),
-    (&[(20, 4, 4, &[21, 8, 8, 8, 22])], 1, 0),
-    (&[(20, 4, 15, &[8, 8])], 1, 0),
-    (&[(20, 4, 1, &[11, 5]), (21, 4, 13, &[])], 1, 7),
+    (&[(20, 4, 0, &[])], 1, 78),
+    (&[(20, 4, 4, &[21, 8, 8, 8, 22])], 1, 78),
+    (&[(20, 4, 15, &[8, 8])], 1, 78),
+    (&[(20, 4, 1, &[11, 5]), (21, 4, 13, &[])], 1, 85),
     // a kernel whose function is none, or whose name is no string; too few and too many operands
-    (&[(20, 4, 1, &[5, 5])], 2, 0),
-    (&[(20, 4, 1, &[11, 8])], 2, 0),
-    (&[(20, 4, 1, &[11])], 2, 0),
-    (&[(20, 4, 1, &[11, 5, 8])], 2, 0),
-    (&[(20, 4, 1, &[63, 5])], 2, 0),
+    (&[(20, 4, 1, &[5, 5])], 2, 78),
+    (&[(20, 4, 1, &[11, 8])], 2, 78),
+    (&[(20, 4, 1, &[11])], 2, 78),
+    (&[(20, 4, 1, &[11, 5, 8])], 2, 78),
+    (&[(20, 4, 1, &[63, 5])], 2, 78),
     // a name that is no string; too few and too many operands
-    (&[(20, 4, 2, &[11])], 2, 0),
-    (&[(20, 4, 2, &[])], 2, 0),
-    (&[(20, 4, 2, &[5, 5])], 2, 0),
+    (&[(20, 4, 2, &[11])], 2, 78),
+    (&[(20, 4, 2, &[])], 2, 78),
+    (&[(20, 4, 2, &[5, 5])], 2, 78),
     // an argument of no kernel: of a function, of a name and of nothing
-    (&[(20, 4, 2, &[5]), (21, 4, 3, &[11, 8, 8, 8, 20])], 2, 6),
-    (&[(20, 4, 2, &[5]), (21, 4, 3, &[20, 8, 8, 8, 20])], 2, 6),
-    (&[(20, 4, 2, &[5]), (21, 4, 3, &[63, 8, 8, 8, 20])], 2, 6),
+    (&[(20, 4, 2, &[5]), (21, 4, 3, &[11, 8, 8, 8, 20])], 2, 84),
+    (&[(20, 4, 2, &[5]), (21, 4, 3, &[20, 8, 8, 8, 20])], 2, 84),
+    (&[(20, 4, 2, &[5]), (21, 4, 3, &[63, 8, 8, 8, 20])], 2, 84),
     // an argument with no name: with a string, a kernel, and a line of another set
-    (&[(20, 4, 1, &[11, 5]), (21, 4, 3, &[20, 8, 8, 8, 5])], 2, 7),
+    (
+        &[(20, 4, 1, &[11, 5]), (21, 4, 3, &[20, 8, 8, 8, 5])],
+        2,
+        85,
+    ),
     (
         &[(20, 4, 1, &[11, 5]), (21, 4, 3, &[20, 8, 8, 8, 20])],
         2,
-        7,
+        85,
     ),
     (
         &[
@@ -238,7 +239,7 @@ const REFUSED: [Refused; 33] = [
             (21, 4, 3, &[20, 8, 8, 8, 22]),
         ],
         2,
-        13,
+        91,
     ),
     // an ordinal of 16 bits, a set that may be specialised, a binding that is a string
     (
@@ -248,7 +249,7 @@ const REFUSED: [Refused; 33] = [
             (22, 4, 3, &[20, 13, 8, 8, 21]),
         ],
         2,
-        13,
+        91,
     ),
     (
         &[
@@ -257,7 +258,7 @@ const REFUSED: [Refused; 33] = [
             (22, 4, 3, &[20, 8, 14, 8, 21]),
         ],
         2,
-        13,
+        91,
     ),
     (
         &[
@@ -266,7 +267,7 @@ const REFUSED: [Refused; 33] = [
             (22, 4, 3, &[20, 8, 8, 5, 21]),
         ],
         2,
-        13,
+        91,
     ),
     // too few and too many operands of an argument
     (
@@ -276,7 +277,7 @@ const REFUSED: [Refused; 33] = [
             (22, 4, 3, &[20, 8, 8, 21]),
         ],
         2,
-        13,
+        91,
     ),
     (
         &[
@@ -285,12 +286,12 @@ const REFUSED: [Refused; 33] = [
             (22, 4, 3, &[20, 8, 8, 8, 21, 21]),
         ],
         2,
-        13,
+        91,
     ),
     // sizes
-    (&[(20, 4, 12, &[8, 9])], 2, 0),
-    (&[(20, 4, 12, &[8, 9, 10, 10])], 2, 0),
-    (&[(20, 4, 12, &[8, 9, 14])], 2, 0),
+    (&[(20, 4, 12, &[8, 9])], 2, 78),
+    (&[(20, 4, 12, &[8, 9, 10, 10])], 2, 78),
+    (&[(20, 4, 12, &[8, 9, 14])], 2, 78),
     // ordinals: the first is 1; 0 comes twice; 1 is left out; another kernel's are counted
     (
         &[
@@ -299,7 +300,7 @@ const REFUSED: [Refused; 33] = [
             (22, 4, 3, &[20, 9, 8, 8, 21]),
         ],
         4,
-        13,
+        91,
     ),
     (
         &[
@@ -309,7 +310,7 @@ const REFUSED: [Refused; 33] = [
             (23, 4, 3, &[20, 8, 8, 9, 21]),
         ],
         4,
-        23,
+        101,
     ),
     (
         &[
@@ -319,7 +320,7 @@ const REFUSED: [Refused; 33] = [
             (23, 4, 3, &[20, 10, 8, 9, 21]),
         ],
         4,
-        23,
+        101,
     ),
     (
         &[
@@ -330,10 +331,10 @@ const REFUSED: [Refused; 33] = [
             (23, 4, 3, &[30, 9, 8, 8, 21]),
         ],
         4,
-        30,
+        108,
     ),
     // the least rule before the first line, and of one rule the first line
-    (&[(20, 4, 1, &[11]), (21, 4, 9, &[])], 1, 6),
+    (&[(20, 4, 1, &[11]), (21, 4, 9, &[])], 1, 84),
     (
         &[
             (20, 4, 1, &[11, 5]),
@@ -342,16 +343,15 @@ const REFUSED: [Refused; 33] = [
             (23, 4, 12, &[8]),
         ],
         2,
-        23,
+        101,
     ),
-    (&[(20, 4, 12, &[8]), (21, 4, 12, &[9])], 2, 0),
+    (&[(20, 4, 12, &[8]), (21, 4, 12, &[9])], 2, 78),
 ];
 
 #[test]
 fn refuses_lines(rt: HostRuntime) -> Result<(), Fail> {
     for (lines, number, word) in REFUSED {
         let stop = read(rt, lines)?.err();
-        let word = word + BEHIND;
         assert_eq!(rt;
             stop,
             Some(ReflectStop::Fault { number, word }),
