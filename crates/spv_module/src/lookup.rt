@@ -3,6 +3,7 @@
 ghost use Rattle.std.specs.Prelude.{◌≡◌, option_map};
 ghost use Rattle.spv_module.specs.Readings.{said_by, is_nil};
 ghost use Rattle.spv_module.specs.Instructions.{result_of, is_result, definition_in, decoration_in, decoration_by, member_decoration_in, member_decoration_by, words, ids, StructType};
+ghost use Rattle.spv_module.specs.Options.{is_there};
 ghost use Rattle.spv_module.specs.Interface.{number_of, pointee_by, is_bound_at};
 
 use crate::enumerant::decoration;
@@ -181,6 +182,49 @@ pub fn member_decoration_number(body: &[Inst], id: u32, at: u32, wanted: u32) ->
     None
 }
 
+/// Whether an id has a decoration.
+pub fn is_decorated(body: &[Inst], id: u32, wanted: u32) -> bool
+    ensures { result ≡ is_there (decoration_in body.now id wanted) }
+{
+    let mut rest = body;
+    while let [inst, others @ ..] = rest {
+        if let Said::Decorate {
+            target,
+            decoration,
+            ..
+        } = inst.says()
+        {
+            if target == id && decoration == wanted {
+                return true;
+            }
+        }
+        rest = others;
+    }
+    false
+}
+
+/// Whether a struct's member has a decoration.
+pub fn is_member_decorated(body: &[Inst], id: u32, at: u32, wanted: u32) -> bool
+    ensures { result ≡ is_there (member_decoration_in body.now id at wanted) }
+{
+    let mut rest = body;
+    while let [inst, others @ ..] = rest {
+        if let Said::MemberDecorate {
+            ty,
+            member,
+            decoration,
+            ..
+        } = inst.says()
+        {
+            if ty == id && member == at && decoration == wanted {
+                return true;
+            }
+        }
+        rest = others;
+    }
+    false
+}
+
 /// Whether the variable has this descriptor set and this binding.
 pub fn is_at(body: &[Inst], variable: u32, set: u32, binding: u32) -> bool
     ensures { result ≡ is_bound_at body.now variable set binding }
@@ -276,6 +320,10 @@ mod tests {
             member_decoration_number(&body, 4, 1, decoration::OFFSET),
             None
         );
+        assert!(rt; is_decorated(&body, 3, decoration::ARRAY_STRIDE));
+        assert!(rt; !is_decorated(&body, 4, decoration::BLOCK));
+        assert!(rt; is_member_decorated(&body, 4, 0, decoration::OFFSET));
+        assert!(rt; !is_member_decorated(&body, 4, 1, decoration::OFFSET));
         assert!(rt; is_at(&body, 6, 1, 2));
         assert!(rt; !is_at(&body, 6, 2, 1));
         Ok(())
