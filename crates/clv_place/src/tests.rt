@@ -47,6 +47,9 @@ fn texts_keep_their_bytes(rt: HostRuntime) -> Result<(), Fail> {
     assert_eq!(rt; text.get(2), Some(b'c'));
     assert_eq!(rt; text.get(3), None);
     assert_eq!(rt; text.as_slice(), b"abc".as_slice());
+    text.set(1, b'x');
+    assert_eq!(rt; text.as_slice(), b"axc".as_slice());
+    text.set(1, b'b');
     let copy = Text::from_bytes(rt.alloc(), text.as_slice())?;
     assert_eq!(rt; copy.as_slice(), b"abc".as_slice());
     let whole = Text::from_vec(vec![in rt.alloc(); b'x']?);

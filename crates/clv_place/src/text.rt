@@ -1,6 +1,6 @@
 //! Texts: bytes in order, in no particular encoding.
 
-ghost use Rattle.std.specs.Prelude.{◌≡◌, ℕ, List, [], ◌∷◌, ◌++◌, length, slice_get, OnOk, OnErr, IfOk, IsTrue, ◌↔◌};
+ghost use Rattle.std.specs.Prelude.{◌≡◌, ℕ, List, [], ◌∷◌, ◌++◌, length, slice_get, slice_set, ◌<◌, OnOk, OnErr, IfOk, IsTrue, ◌↔◌};
 
 use crate::stop::NoMemory;
 use std::alloc::Global;
@@ -73,6 +73,14 @@ impl Text {
         ensures { result.now ≡ self.now }
     {
         &self.bytes
+    }
+
+    /// Puts a byte in the place of the one at an index.
+    pub fn set(&mut self, at: usize, byte: u8)
+        requires { at < length self.old }
+        ensures { self.new ≡ slice_set self.old at byte }
+    {
+        self.bytes[at] = byte;
     }
 
     /// Adds bytes at the end. For want of memory it changes nothing.

@@ -1,5 +1,5 @@
 -- All invocations of a launch over its buffers, in any order.
-use Rattle.std.specs.Prelude.{ℕ, zero, suc, ◌+◌, ◌*◌, ◌/◌, ◌%◌, true, false, List, [], ◌∷◌, ◌++◌, length, take, drop, Option, None}
+use Rattle.std.specs.Prelude.{ℕ, zero, suc, ◌+◌, ◌*◌, ◌/◌, ◌%◌, true, false, List, [], ◌∷◌, ◌++◌, slice_set, Option, None}
 use Rattle.launch_text.specs.WorkItems.{Sizes, volume, place_in}
 use Rattle.spv_module.specs.declared.module.Inst.{Inst}
 use Rattle.clv_worlds.specs.Worlds.{Shared, Program}
@@ -16,9 +16,10 @@ abbrev pub low_bytes : ℕ → ℕ → List ℕ
 low_bytes zero value = []
 low_bytes (suc n) value = value % 256 ∷ low_bytes n (value / 256)
 
--- bytes in the place of those from an offset on
+-- bytes in the place of those from an offset on; what is past the end is not there
 abbrev pub put_at : ℕ → List ℕ → List ℕ → List ℕ
-put_at offset bytes old = take offset old ++ (bytes ++ drop (offset + length bytes) old)
+put_at offset [] old = old
+put_at offset (b ∷ bs) old = put_at (offset + 1) bs (slice_set old offset b)
 
 abbrev pub put_in : ℕ → ℕ → List ℕ → Buffers → Buffers
 put_in n offset bytes [] = []

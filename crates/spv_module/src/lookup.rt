@@ -120,8 +120,8 @@ fn is_wordless(operands: &[Operand]) -> bool
     true
 }
 
-// The number, where there is just one.
-fn one_number(operands: &[Operand]) -> Option<u32>
+/// The literal word among the operands, where there is just one.
+pub fn one_number(operands: &[Operand]) -> Option<u32>
     ensures { result ≡ number_of (Some (words operands.now)) }
 {
     let mut rest = operands;

@@ -1,0 +1,96 @@
+//! The machine before its first step.
+
+ghost use Rattle.std.specs.Prelude.{◌≡◌, ◌+◌, ◌*◌, ◌<◌, ◌≤◌, ◌^◌, ℕ, [], IfOk, length, replicate, map, take};
+ghost use Rattle.clv_worlds.specs.Worlds.{opening};
+ghost use Rattle.launch_text.specs.WorkItems.{volume, sizes_of};
+ghost use Rattle.spv_module.specs.Interface.{word_at as first_word};
+ghost use Rattle.spv_meaning.specs.Invocation.{place_after as place_behind, run};
+ghost use Rattle.run_machine.specs.Views.{body_by, start_by, run_by};
+ghost use Rattle.run_machine.specs.Machines.{IsAt};
+
+use crate::invocation::{Frame, Run};
+use crate::launch::Start;
+use crate::machine::Machine;
+use clv_place::{List, NoMemory, Text};
+use spv_module::module::Inst;
+use spv_module::reading::Said;
+use std::alloc::Global;
+
+// The place behind a function's line, or behind the last line where there is none.
+fn place_after(body: &[Inst], function: u32) -> usize
+    ensures at { result ≡ place_behind body.now function }
+{
+    let mut place = 0;
+    let mut rest = body;
+    while let [inst, others @ ..] = rest {
+        place += 1;
+        if let Said::Function { id, .. } = inst.says() {
+            if id == function {
+                return place;
+            }
+        }
+        rest = others;
+    }
+    place
+}
+
+// A copy of each buffer.
+fn copies(alloc: Global, buffers: &[Text]) -> Result<Vec<Text>, NoMemory>
+    ensures { IfOk result (λ copies. copies.items ≡ buffers.now) }
+{
+    let mut copies = Vec::new(alloc);
+    for buffer in buffers {
+        copies.push(Text::from_bytes(alloc, buffer.as_slice())?)?;
+    }
+    Ok(copies)
+}
+
+// So many invocations at the beginning of a function.
+#[tactic(auto, using(crate::proofs::Openings::firsts))]
+fn firsts(alloc: Global, function: u32, place: usize, count: u32) -> Result<Vec<Run>, NoMemory>
+    ensures { IfOk result (λ runs. map run_by runs.items ≡ replicate count (run function place [] [])) }
+{
+    let mut runs = Vec::new(alloc);
+    for made in 0..count {
+        let _ = made;
+        runs.push(Run::At(Frame {
+            function,
+            place,
+            part: Vec::new(alloc),
+            values: Vec::new(alloc),
+        }))?;
+    }
+    Ok(runs)
+}
+
+impl Start {
+    // The number of items.
+    pub(crate) fn items(&self) -> u32
+        requires { volume (sizes_of self.now.global) ≤ 16384 }
+        ensures { result ≡ volume (sizes_of self.now.global) }
+    {
+        let [x, y, z] = self.global;
+        (x as u64 * y as u64 * z as u64) as u32
+    }
+}
+
+impl Machine {
+    /// The machine with all invocations before their first step, and copies of the buffers.
+    #[tactic(auto, using(crate::proofs::Openings::opened))]
+    pub fn new(alloc: Global, start: Start) -> Result<Machine, NoMemory>
+        requires words { first_word start.module.body (length start.module.body) < 2 ^ 32 }
+        requires few { volume (sizes_of start.global) ≤ 16384 }
+        ensures start { IfOk result (λ m. m.start ≡ start) }
+        ensures at { IfOk result (λ m. IsAt m (opening (start_by start).buffers)) }
+    {
+        let buffers = copies(alloc, start.buffers.as_slice())?;
+        let place = place_after(start.body(), start.function);
+        let runs = firsts(alloc, start.function, place, start.items())?;
+        Ok(Machine {
+            alloc,
+            start,
+            buffers,
+            runs,
+        })
+    }
+}
