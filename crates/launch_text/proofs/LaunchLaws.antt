@@ -1,7 +1,7 @@
 -- What holds of each launch that a text gives: each line says only what fits, and what the lines have said stays a launch.
 use Rattle.std.proofs.Common.{◌≡◌, ◌⊎◌, inl, inr, ℕ, zero, suc, ◌+◌, ◌-◌, ◌^◌, ◌<◌, ◌≤◌, Bool, true, false, not, ◌||◌, ◌&&◌, cond, eqb, leb, List, [], ◌∷◌, ◌++◌, length, Option, Some, None, is_some, unwrap_or, Result, Ok, Err, refl, sym, ap, ◌∙◌, subst, arith, slice_get, Contains, length-append}
 use Rattle.std.specs.Prelude.{All}
-use Rattle.std.specs.List.{list_any, list_all, position_or_len}
+use Rattle.std.specs.List.{list_any, list_all, onto_first, position_or_len}
 use Rattle.std.specs.Str.{bytes_eq}
 use Rattle.std.specs.Result.{IfOk}
 use Rattle.std.specs.Char.{is_ascii_digit}
@@ -33,7 +33,7 @@ use Rattle.launch_text.specs.Rules.{AreSizes}
 use Rattle.launch_text.specs.WorkItems.{sizes_of}
 use Rattle.launch_text.specs.Said.{number_of, number32_of, grid_of, sizes_said, global_said, local_said, kernel_said, buffer_given, local_given, plain_given, given_said, argument_said, robin_given, seed_given, turns_said, schedule_said, steps_given, steps_said, is_text, words_said, line_said}
 use Rattle.launch_text.proofs.Drafts.{draft_of, taken_is, drafted_is}
-use Rattle.launch_text.proofs.Files.{same_name}
+use Rattle.launch_text.proofs.Files.{same_name, few_files}
 use Rattle.launch_text.proofs.Names.{names_utf8, words_are_names}
 use Rattle.launch_text.proofs.Places.{none_passes, place_of_new, place_of_none}
 
@@ -419,9 +419,9 @@ steps_or : (o : Option ℕ) → ((n : ℕ) → o ≡ Some n → IsCount n) → I
 steps_or None h = record { some = omega arith; few = omega arith }
 steps_or (Some n) h = h n refl
 
-readable_if : (d : Draft) (l : Launch) (f : Fault) (kernel : List ℕ) (g : Grid) (o : LocalLine) (b : Bool) → eqb g.dims o.grid.dims ≡ b → d.kernel ≡ Some kernel → d.global ≡ Some g → d.local ≡ Some o → IsSound d → cond {A = Result Launch Fault} b (Ok (record { kernel = kernel; dims = g.dims; global = g.sizes; local = o.grid.sizes; files = d.files; args = d.args; schedule = unwrap_or d.schedule (Robin 1); steps = unwrap_or d.steps 100000000 })) (Err f) ≡ Ok l → IsReadable l
-readable_if d l f kernel g o false test is_kernel is_global is_local h e = absurd (let never : ⊥ = cc in never)
-readable_if d l f kernel g o true test is_kernel is_global is_local h e =
+readable_if : (d : Draft) (l : Launch) (f : Fault) (kernel : List ℕ) (g : Grid) (o : LocalLine) (b : Bool) → eqb g.dims o.grid.dims ≡ b → d.kernel ≡ Some kernel → d.global ≡ Some g → d.local ≡ Some o → IsSound d → length d.files < 2 ^ 32 → cond {A = Result Launch Fault} b (Ok (record { kernel = kernel; dims = g.dims; global = g.sizes; local = o.grid.sizes; files = d.files; args = d.args; schedule = unwrap_or d.schedule (Robin 1); steps = unwrap_or d.steps 100000000 })) (Err f) ≡ Ok l → IsReadable l
+readable_if d l f kernel g o false test is_kernel is_global is_local h few e = absurd (let never : ⊥ = cc in never)
+readable_if d l f kernel g o true test is_kernel is_global is_local h few e =
     let made : Launch = record { kernel = kernel; dims = g.dims; global = g.sizes; local = o.grid.sizes; files = d.files; args = d.args; schedule = unwrap_or d.schedule (Robin 1); steps = unwrap_or d.steps 100000000 } in
     let same : made ≡ l = cc in
     let global = h.global g is_global in
@@ -439,27 +439,59 @@ readable_if d l f kernel g o true test is_kernel is_global is_local h e =
       files = h.files;
       named = h.named;
       names = names_utf8 d.files h.named;
+      few = few;
       schedule = schedule_or d.schedule h.schedule;
       steps = steps_or d.steps h.steps;
     })
 
-readable_by : (d : Draft) (count : ℕ) (l : Launch) (kernel : Option (List ℕ)) (g : Option Grid) (o : Option LocalLine) → d.kernel ≡ kernel → d.global ≡ g → d.local ≡ o → IsSound d → finished d count kernel g o ≡ Ok l → IsReadable l
-readable_by d count l (Some kernel) (Some g) (Some o) is_kernel is_global is_local h e = readable_if d l _ kernel g o (eqb g.dims o.grid.dims) refl is_kernel is_global is_local h e
-readable_by d count l (Some kernel) (Some g) None is_kernel is_global is_local h e = absurd (let never : ⊥ = cc in never)
-readable_by d count l (Some kernel) None o is_kernel is_global is_local h e = absurd (let never : ⊥ = cc in never)
-readable_by d count l None g o is_kernel is_global is_local h e = absurd (let never : ⊥ = cc in never)
+readable_by : (d : Draft) (count : ℕ) (l : Launch) (kernel : Option (List ℕ)) (g : Option Grid) (o : Option LocalLine) → d.kernel ≡ kernel → d.global ≡ g → d.local ≡ o → IsSound d → length d.files < 2 ^ 32 → finished d count kernel g o ≡ Ok l → IsReadable l
+readable_by d count l (Some kernel) (Some g) (Some o) is_kernel is_global is_local h few e = readable_if d l _ kernel g o (eqb g.dims o.grid.dims) refl is_kernel is_global is_local h few e
+readable_by d count l (Some kernel) (Some g) None is_kernel is_global is_local h few e = absurd (let never : ⊥ = cc in never)
+readable_by d count l (Some kernel) None o is_kernel is_global is_local h few e = absurd (let never : ⊥ = cc in never)
+readable_by d count l None g o is_kernel is_global is_local h few e = absurd (let never : ⊥ = cc in never)
 
-readable_from : (v : Result (List Said) Fault) (l : Launch) → ((lines : List Said) → v ≡ Ok lines → IsSound (draft_of lines)) → launch_said v ≡ Ok l → IsReadable l
-readable_from (Ok lines) l h e = (let d = draft_of lines in readable_by d (length lines) l d.kernel d.global d.local refl refl refl (h lines refl) (drafted_is lines ∙ e))
-readable_from (Err fault) l h e = absurd (let never : ⊥ = cc in never)
+readable_from : (v : Result (List Said) Fault) (l : Launch) → ((lines : List Said) → v ≡ Ok lines → IsSound (draft_of lines)) → ((lines : List Said) → v ≡ Ok lines → length lines ≤ 65536) → launch_said v ≡ Ok l → IsReadable l
+readable_from (Ok lines) l h small e = (let d = draft_of lines in readable_by d (length lines) l d.kernel d.global d.local refl refl refl (h lines refl) (let few = few_files lines in let count = small lines refl in omega (arith, few, count)) (drafted_is lines ∙ e))
+readable_from (Err fault) l h small e = absurd (let never : ⊥ = cc in never)
 
 chosen_ok : (b : Bool) (v : Result Launch Fault) (f : Fault) (l : Launch) → cond b v (Err f) ≡ Ok l → v ≡ Ok l
 chosen_ok true v f l e = e
 chosen_ok false v f l e = absurd (let never : ⊥ = cc in never)
 
+chosen_small : (b : Bool) (v : Result Launch Fault) (f : Fault) (l : Launch) → cond b v (Err f) ≡ Ok l → b ≡ true
+chosen_small true v f l e = refl
+chosen_small false v f l e = absurd (let never : ⊥ = cc in never)
+
+-- ---- there are no more lines than bytes
+
+joined : (b : ℕ) (lines : List (List ℕ)) → length (onto_first b lines) ≤ length lines + 1
+joined b [] = omega arith
+joined b (line ∷ lines) = omega arith
+
+one_more : (b : ℕ) (lines : List (List ℕ)) (count : ℕ) (t : Bool) → length lines ≤ count → length (cond t ([] ∷ lines) (onto_first b lines)) ≤ count + 1
+one_more b lines count true h = omega (arith, h)
+one_more b lines count false h = let more = joined b lines in omega (arith, h, more)
+
+few_lines : (text : List ℕ) → length (lines_of text) ≤ length text
+few_lines [] = omega arith
+few_lines (b ∷ bs) = let h = one_more b (lines_of bs) (length bs) (eqb b 10) (few_lines bs) in omega (arith, h)
+
+counted_at : (before all : List Said) (lines : List (List ℕ)) (v : Result Said ℕ) → ((s : Said) → all_said (before ++ s ∷ []) lines ≡ Ok all → length all ≡ length (before ++ s ∷ []) + length lines) → at_line (length before + 1) v (λ s. all_said (before ++ s ∷ []) lines) ≡ Ok all → length all ≡ length before + (length lines + 1)
+counted_at before all lines (Ok s) rest e = let h = rest s e in let pushed = length-append before (s ∷ []) in omega (arith, h, pushed)
+counted_at before all lines (Err rule) rest e = absurd (let never : ⊥ = cc in never)
+
+counted_lines : (before all : List Said) (lines : List (List ℕ)) → all_said before lines ≡ Ok all → length all ≡ length before + length lines
+counted_lines before all [] e = (let same : before ≡ all = cc in let count = ap (λ (s : List Said). length s) same in omega (arith, count))
+counted_lines before all (line ∷ lines) e = let h = counted_at before all lines (said_after before line) (λ s. counted_lines (before ++ s ∷ []) all lines) e in omega (arith, h)
+
+few_said : (text : List ℕ) (lines : List Said) → length text ≤ 65536 → all_said [] (lines_of text) ≡ Ok lines → length lines ≤ 65536
+few_said text lines small e = let count = counted_lines [] lines (lines_of text) e in let few = few_lines text in omega (arith, count, few, small)
+
 pub readable : (text : List ℕ) (l : Launch) → launch_of text ≡ Ok l → IsReadable l
 unfolding launch_of
-readable text l e = readable_from (all_said [] (lines_of text)) l (λ lines. sound_lines [] lines (lines_of text) sound_first) (chosen_ok (leb (length text) 65536) _ _ l e)
+readable text l e =
+    let small = leb-true (length text) 65536 (chosen_small (leb (length text) 65536) _ _ l e) in
+    readable_from (all_said [] (lines_of text)) l (λ lines. sound_lines [] lines (lines_of text) sound_first) (λ lines. few_said text lines small) (chosen_ok (leb (length text) 65536) _ _ l e)
 
 -- of what a call answers
 pub readable_answer : (text : List ℕ) (r : Result Launch LaunchStop) → IfOk r (λ launch. launch_of text ≡ Ok launch) → IfOk r IsReadable

@@ -1,5 +1,5 @@
 -- What holds of each launch that a text gives.
-use Rattle.std.specs.Prelude.{◌≡◌, ℕ, ◌^◌, ◌≤◌, List, length, Some, slice_get, All, IsUtf8}
+use Rattle.std.specs.Prelude.{◌≡◌, ℕ, ◌^◌, ◌<◌, ◌≤◌, List, length, Some, slice_get, All, IsUtf8}
 use Rattle.launch_text.specs.declared.launch.Launch.{Launch}
 use Rattle.launch_text.specs.declared.launch.Schedule.{Schedule}
 use Rattle.launch_text.specs.declared.launch.Schedule.TheVariants.{Robin, Mixed}
@@ -36,5 +36,6 @@ pub record IsReadable (l : Launch) : Type 0 where
   pub files : AreDistinct l.files
   pub named : All IsName l.files
   pub names : All IsUtf8 l.files
+  pub few : length l.files < 2 ^ 32
   pub schedule : IsSchedule l.schedule
   pub steps : IsCount l.steps

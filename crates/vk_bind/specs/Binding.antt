@@ -4,6 +4,7 @@ use Rattle.std.specs.Str.{bytes_eq}
 use Rattle.spv_module.specs.declared.module.Inst.{Inst}
 use Rattle.spv_module.specs.declared.enumerant.decoration.TheConstants as decoration
 use Rattle.spv_module.specs.Options.{◌>>=◌, for_each}
+use Rattle.launch_text.specs.declared.launch.ArgLine.{ArgLine}
 use Rattle.launch_text.specs.WorkItems.{Sizes, sizes_of}
 use Rattle.launch_text.specs.Rules.{LoadedLaunch, Parameter, GlobalPointer, KeepsRules, buffer_given}
 use Rattle.spv_meaning.specs.Start.{Bound, Specialised, Start}
@@ -43,9 +44,9 @@ abbrev pub bound_by : ArgKindRow → Option ℕ → List Bound → List Bound
 bound_by (Buffer set binding) (Some buffer) bs = record { set = set; binding = binding; buffer = buffer } ∷ bs
 bound_by _ _ bs = bs
 
-abbrev pub bound_from : LoadedLaunch → ℕ → List ArgRow → List Bound
-bound_from l n [] = []
-bound_from l n (row ∷ rows) = bound_by row.kind (buffer_given n l.arguments) (bound_from l (n + 1) rows)
+abbrev pub bound_from : List ArgLine → ℕ → List ArgRow → List Bound
+bound_from args n [] = []
+bound_from args n (row ∷ rows) = bound_by row.kind (buffer_given n args) (bound_from args (n + 1) rows)
 
 abbrev pub specialised_by : Option (List ℕ) → Sizes → List Specialised
 specialised_by None local = []
@@ -54,7 +55,7 @@ specialised_by (Some s) local =
     record { id = ids.x; value = local.x } ∷ record { id = ids.y; value = local.y } ∷ record { id = ids.z; value = local.z } ∷ []
 
 abbrev pub start_of : Reflection → KernelRow → LoadedLaunch → Start
-start_of r row l = record { function = row.function; global = l.global; local = l.local; buffers = l.buffers; bound = bound_from l 0 row.args; specialised = specialised_by r.sizes l.local }
+start_of r row l = record { function = row.function; global = l.global; local = l.local; buffers = l.buffers; bound = bound_from l.arguments 0 row.args; specialised = specialised_by r.sizes l.local }
 
 -- What the kernel of the launch's name takes, and the start that the launch gives it. None where there is no such kernel (L10).
 abbrev pub binding_of : List Inst → LoadedLaunch → Option (List Parameter × Start)

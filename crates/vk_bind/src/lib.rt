@@ -1,3 +1,13 @@
 //! The binding room: a launch is bound to a module, through the module's reflection rows and its variables'
 //! types and decorations alone.
 #![tactic(auto)]
+
+mod binding;
+mod parameters;
+mod rules;
+pub mod start;
+#[cfg(test)]
+mod tests;
+
+pub use binding::{bind, kept_or_broken};
+pub use start::{BindStop, Bound, Spec, Start};

@@ -1,0 +1,4 @@
+pub mod Breaking
+pub mod Rows
+pub mod Sizes
+pub mod Starting
