@@ -137,17 +137,30 @@ pushed_onto next (Literal n ∷ ts) b rest = pushed_onto (next + 3) ts (const_li
 abbrev IsUpTo : ℕ → List Line → Type 0
 IsUpTo n b = (l : Line) → nat_le n (section l) ≡ true → follows b l ≡ true
 
+le_trans_test : (x y z : ℕ) → nat_le x y ≡ true → nat_le y z ≡ true → nat_le x z ≡ true
+le_trans_test x y z e f = grind (arith, nat_tests)
+
+abbrev is_early : Line → Bool
+is_early l = nat_le (section l) 10
+
+up_to : (b : List Line) → list_all is_early b ≡ true → IsUpTo 10 b
+up_to [] e l f = refl
+up_to (p ∷ b) e l f =
+    both (nat_le (section p) (section l)) (follows b l)
+    (le_trans_test (section p) 10 (section l) (and_left (is_early p) (list_all is_early b) e) f)
+    (up_to b (and_right (is_early p) (list_all is_early b) e) l f)
+
 pushed_up_to : (next : ℕ) (ts : List Term) (b : List Line) → IsUpTo 10 b → IsUpTo 10 (pushed next ts b)
 pushed_up_to next [] b h = h
 pushed_up_to next (GlobalId ∷ ts) b h = pushed_up_to (next + 3) ts b h
-pushed_up_to next (Literal n ∷ ts) b h = pushed_up_to (next + 3) ts (const_line next n ∷ b) (λ l e. e)
+pushed_up_to next (Literal n ∷ ts) b h = pushed_up_to (next + 3) ts (const_line next n ∷ b) (λ l e. both (nat_le 10 (section l)) (follows b l) e (h l e))
 
 walk_constants : (w : Whole) (next : ℕ) (ts : List Term) (b : List Line) (rest : List Inst) → IsUpTo 10 b → ((x : ℕ) → next ≤ x → makes b x ≡ false) → makes b id.UINT ≡ true → Walk w (pushed next ts b) (lines_from false rest) → Walk w b (lines_from false (constants_from next ts ++ rest))
 walk_constants w next [] b rest o f u more = more
 walk_constants w next (GlobalId ∷ ts) b rest o f u more = walk_constants w (next + 3) ts b rest o (λ x h. f x (omega arith)) u more
 walk_constants w next (Literal n ∷ ts) b rest o f u more =
     step b (const_line next n) (lines_from false (constants_from (next + 3) ts ++ rest)) (constant b (lines_from false (constants_from (next + 3) ts ++ rest)) next n (o (const_line next n) refl) (f next (omega arith)) u)
-    (walk_constants w (next + 3) ts (const_line next n ∷ b) rest (λ l e. e) (λ x h. makes_skip next x (makes b x) (λ e. omega arith) (f x (omega arith))) (ap (λ z. nat_eq next id.UINT || z) u ∙ or_true (nat_eq next id.UINT)) more)
+    (walk_constants w (next + 3) ts (const_line next n ∷ b) rest (λ l e. both (nat_le 10 (section l)) (follows b l) e (o l e)) (λ x h. makes_skip next x (makes b x) (λ e. omega arith) (f x (omega arith))) (ap (λ z. nat_eq next id.UINT || z) u ∙ or_true (nat_eq next id.UINT)) more)
 
 -- ---- the code
 
@@ -200,7 +213,7 @@ extracted w b x y h e p = record { line = extract_line x y; found = e; valued = 
 
 code_on : (w : Whole) (b : List Line) (l : Line) (r : ℕ) → l.result ≡ Some r → id.TERMS ≤ r → section l ≡ 11 → has_op op.LABEL l ≡ false → has_op op.FUNCTION l ≡ false → ends_function l ≡ false → IsCode w b → IsCode w (l ∷ b)
 code_on w b l r e p s f g h c = record {
-  ordered = λ m q. ap (λ n. nat_le n (section m)) s ∙ q;
+  ordered = λ m q. both (nat_le (section l) (section m)) (follows b m) (ap (λ n. nat_le n (section m)) s ∙ q) (c.ordered m q);
   low = λ x m n. ap (λ o. is_id o x || makes b x) e ∙ makes_skip r x (makes b x) (λ q. omega arith) (c.low x m n);
   in_block = λ x.
       ap (λ z. cond z true (cond (ends_function l) false (block_makes true b x))) f
@@ -228,7 +241,7 @@ module _ (w : Whole) where
       let so_far : block_makes false (load_line next ∷ b) next ≡ true = ap (λ z. block_makes z b next) (eq_same next) ∙ c.in_block next in
       record {
         first = load b (extract_line (next + 1) next ∷ behind) next (c.ordered (load_line next) refl) f;
-        second = extract (load_line next ∷ b) behind (next + 1) next refl fresh load_found so_far (omega arith);
+        second = extract (load_line next ∷ b) behind (next + 1) next (more.ordered (extract_line (next + 1) next) refl) fresh load_found so_far (omega arith);
         code = code_on w (load_line next ∷ b) (extract_line (next + 1) next) (next + 1) refl (omega arith) refl refl refl refl more;
         uint = extracted w (load_line next ∷ b) (next + 1) next more.in_block extract_found (omega arith);
       }
@@ -263,7 +276,7 @@ module _ (w : Whole) where
       let found : defined w (next + 2) ≡ Some (add_line (next + 2) so_far (next + 1)) = found_at w before (lines_from true behind) (add_line (next + 2) so_far (next + 1)) (next + 2) e free (eq_same (next + 2)) in
       step b (load_line next) (lines_from true (inst op.COMPOSITE_EXTRACT (Id id.UINT ∷ Id (next + 1) ∷ Id next ∷ Word 0 ∷ []) ∷ (here ∷ behind))) s.first
       (step (load_line next ∷ b) (extract_line (next + 1) next) (lines_from true (here ∷ behind)) s.second
-      (step before (add_line (next + 2) so_far (next + 1)) (lines_from true behind) (add before (lines_from true behind) (next + 2) so_far (next + 1) refl free left s.uint)
+      (step before (add_line (next + 2) so_far (next + 1)) (lines_from true behind) (add before (lines_from true behind) (next + 2) so_far (next + 1) (s.code.ordered (add_line (next + 2) so_far (next + 1)) refl) free left s.uint)
       (walk_sums (next + 3) (next + 2) ts (add_line (next + 2) so_far (next + 1) ∷ before) rest (omega arith)
       (code_on w before (add_line (next + 2) so_far (next + 1)) (next + 2) refl (omega arith) refl refl refl refl s.code)
       (fresh_on_add (next + 3) (next + 2) so_far (next + 1) ts before (omega arith) (fresh_on_id next ts b f))
@@ -297,21 +310,31 @@ module _ (w : Whole) where
 
   walk_end : (x : ℕ) (b : List Line) → IsCode w b → IsUint w b x → defined w id.MAIN ≡ Some main_line → w.lines ≡ onto b (lines_from true (function_end x ++ reflection)) → Walk w b (lines_from true (function_end x ++ reflection))
   walk_end x b c u m e =
-      let reading = λ (ls : List Line). ls in
-      let no : (y : ℕ) → id.ELEMENT ≤ y → y < id.TERMS → makes b y ≡ false = c.low in
-      let chain_found : defined w id.ELEMENT ≡ Some chain_line = found_at w b (store_line x ∷ (return_line ∷ (end_line ∷ (kernel_line ∷ (name_line ∷ (buffer_line ∷ (sizes_line ∷ []))))))) chain_line id.ELEMENT e (no id.ELEMENT (omega arith) (omega arith)) refl in
-      let before = end_line ∷ (return_line ∷ (store_line x ∷ (chain_line ∷ b))) in
-      let kernel_found : defined w id.KERNEL_LINE ≡ Some kernel_line = found_at w before (name_line ∷ (buffer_line ∷ (sizes_line ∷ []))) kernel_line id.KERNEL_LINE e (no id.KERNEL_LINE (omega arith) (omega arith)) refl in
-      let name_found : defined w id.NAME_LINE ≡ Some name_line = found_at w (kernel_line ∷ before) (buffer_line ∷ (sizes_line ∷ [])) name_line id.NAME_LINE e (no id.NAME_LINE (omega arith) (omega arith)) refl in
-      step b chain_line (store_line x ∷ (return_line ∷ (end_line ∷ (kernel_line ∷ (name_line ∷ (buffer_line ∷ (sizes_line ∷ []))))))) (chain b (store_line x ∷ (return_line ∷ (end_line ∷ (kernel_line ∷ (name_line ∷ (buffer_line ∷ (sizes_line ∷ []))))))) (c.ordered chain_line refl) (no id.ELEMENT (omega arith) (omega arith)) c.place)
-      (step (chain_line ∷ b) (store_line x) (return_line ∷ (end_line ∷ (kernel_line ∷ (name_line ∷ (buffer_line ∷ (sizes_line ∷ [])))))) (store (chain_line ∷ b) (return_line ∷ (end_line ∷ (kernel_line ∷ (name_line ∷ (buffer_line ∷ (sizes_line ∷ [])))))) x refl chain_found (c.in_block id.ELEMENT) (uint_on w b chain_line x refl refl c.in_block u))
-      (step (store_line x ∷ (chain_line ∷ b)) return_line (end_line ∷ (kernel_line ∷ (name_line ∷ (buffer_line ∷ (sizes_line ∷ []))))) (return (store_line x ∷ (chain_line ∷ b)) (end_line ∷ (kernel_line ∷ (name_line ∷ (buffer_line ∷ (sizes_line ∷ []))))) refl c.returns)
-      (step (return_line ∷ (store_line x ∷ (chain_line ∷ b))) end_line (kernel_line ∷ (name_line ∷ (buffer_line ∷ (sizes_line ∷ [])))) (end (return_line ∷ (store_line x ∷ (chain_line ∷ b))) (kernel_line ∷ (name_line ∷ (buffer_line ∷ (sizes_line ∷ [])))) refl)
-      (step before kernel_line (name_line ∷ (buffer_line ∷ (sizes_line ∷ []))) (kernel before (name_line ∷ (buffer_line ∷ (sizes_line ∷ []))) refl (no id.KERNEL_LINE (omega arith) (omega arith)) m)
-      (step (kernel_line ∷ before) name_line (buffer_line ∷ (sizes_line ∷ [])) (name (kernel_line ∷ before) (buffer_line ∷ (sizes_line ∷ [])) refl (no id.NAME_LINE (omega arith) (omega arith)))
-      (step (name_line ∷ (kernel_line ∷ before)) buffer_line (sizes_line ∷ []) (buffer (name_line ∷ (kernel_line ∷ before)) (sizes_line ∷ []) refl (no id.BUFFER_LINE (omega arith) (omega arith)) kernel_found name_found)
-      (step (buffer_line ∷ (name_line ∷ (kernel_line ∷ before))) sizes_line [] (sizes (buffer_line ∷ (name_line ∷ (kernel_line ∷ before))) [] refl (no id.SIZES_LINE (omega arith) (omega arith)))
-      (none (sizes_line ∷ (buffer_line ∷ (name_line ∷ (kernel_line ∷ before))))))))))))
+      let after_name = buffer_line ∷ (sizes_line ∷ []) in
+      let after_kernel = name_line ∷ after_name in
+      let after_end = kernel_line ∷ after_kernel in
+      let after_return = end_line ∷ after_end in
+      let after_store = return_line ∷ after_return in
+      let after_chain = store_line x ∷ after_store in
+      let with_store = store_line x ∷ (chain_line ∷ b) in
+      let with_end = end_line ∷ (return_line ∷ with_store) in
+      let with_name = name_line ∷ (kernel_line ∷ with_end) in
+      let free : (y : ℕ) → id.ELEMENT ≤ y → y < id.TERMS → makes b y ≡ false = c.low in
+      let chain_free = free id.ELEMENT (omega arith) (omega arith) in
+      let kernel_free = free id.KERNEL_LINE (omega arith) (omega arith) in
+      let name_free = free id.NAME_LINE (omega arith) (omega arith) in
+      let chain_found : defined w id.ELEMENT ≡ Some chain_line = found_at w b after_chain chain_line id.ELEMENT e chain_free refl in
+      let kernel_found : defined w id.KERNEL_LINE ≡ Some kernel_line = found_at w with_end after_kernel kernel_line id.KERNEL_LINE e kernel_free refl in
+      let name_found : defined w id.NAME_LINE ≡ Some name_line = found_at w (kernel_line ∷ with_end) after_name name_line id.NAME_LINE e name_free refl in
+      step b chain_line after_chain (chain b after_chain (c.ordered chain_line refl) chain_free c.place)
+      (step (chain_line ∷ b) (store_line x) after_store (store (chain_line ∷ b) after_store x (c.ordered (store_line x) refl) chain_found (c.in_block id.ELEMENT) (uint_on w b chain_line x refl refl c.in_block u))
+      (step with_store return_line after_return (return with_store after_return (c.ordered return_line refl) c.returns)
+      (step (return_line ∷ with_store) end_line after_end (end (return_line ∷ with_store) after_end (c.ordered end_line refl))
+      (step with_end kernel_line after_kernel (kernel with_end after_kernel (c.ordered kernel_line refl) kernel_free m)
+      (step (kernel_line ∷ with_end) name_line after_name (name (kernel_line ∷ with_end) after_name (c.ordered name_line refl) name_free)
+      (step with_name buffer_line (sizes_line ∷ []) (buffer with_name (sizes_line ∷ []) (c.ordered buffer_line refl) (free id.BUFFER_LINE (omega arith) (omega arith)) kernel_found name_found)
+      (step (buffer_line ∷ with_name) sizes_line [] (sizes (buffer_line ∷ with_name) [] (c.ordered sizes_line refl) (free id.SIZES_LINE (omega arith) (omega arith)))
+      (none (sizes_line ∷ (buffer_line ∷ with_name))))))))))
 
 -- ---- a kernel's module
 
@@ -388,9 +411,20 @@ module _ (k : Kernel) where
   extract_found : defined (the_whole k) (id.PLACE + 1) ≡ Some (extract_line (id.PLACE + 1) id.PLACE)
   extract_found = found_at (the_whole k) (load_line id.PLACE ∷ (label_line ∷ (main_line ∷ front))) (lines_from true (terms k.terms ++ behind_terms)) (extract_line (id.PLACE + 1) id.PLACE) (id.PLACE + 1) lines_are (front_makes_none (id.PLACE + 1) (omega arith) refl) refl
 
+  front_up_to : IsUpTo 10 front
+  front_up_to = pushed_up_to id.TERMS k.terms (behind_head k) (up_to (behind_head k) refl)
+
+  -- the lines up to the load may be followed by lines of functions
+  up_to_place : IsUpTo 11 (load_line id.PLACE ∷ (label_line ∷ (main_line ∷ front)))
+  up_to_place l e =
+      both (nat_le 11 (section l)) (follows (label_line ∷ (main_line ∷ front)) l) e
+      (both (nat_le 11 (section l)) (follows (main_line ∷ front) l) e
+      (both (nat_le 11 (section l)) (follows front l) e
+      (front_up_to l (le_trans_test 10 11 (section l) refl e))))
+
   place_code : IsCode (the_whole k) place_lines
   place_code = record {
-    ordered = λ l e. e;
+    ordered = λ l e. both (nat_le 11 (section l)) (follows (load_line id.PLACE ∷ (label_line ∷ (main_line ∷ front))) l) e (up_to_place l e);
     low = λ x p q. makes_skip (id.PLACE + 1) x (makes (load_line id.PLACE ∷ (label_line ∷ (main_line ∷ front))) x) (λ e. omega arith)
         (makes_skip id.PLACE x (makes (label_line ∷ (main_line ∷ front)) x) (λ e. omega arith)
         (makes_skip id.ENTRY x (makes (main_line ∷ front) x) (λ e. omega arith)
@@ -414,11 +448,11 @@ module _ (k : Kernel) where
   walk_code : Walk (the_whole k) front (lines_from false (code_of k.terms))
   walk_code =
       let behind = lines_from true (terms k.terms ++ behind_terms) in
-      step front main_line (lines_from true (code_behind k.terms)) (main front (lines_from true (code_behind k.terms)) (pushed_up_to id.TERMS k.terms (behind_head k) (λ l e. e) main_line refl) (front_makes_none id.MAIN (omega arith) refl) (main_ended k.terms) refl)
-      (step (main_line ∷ front) label_line (lines_from true (behind_label k.terms)) (label (main_line ∷ front) (lines_from true (behind_label k.terms)) refl (front_makes_none id.ENTRY (omega arith) refl) (block_terminated k.terms))
-      (step (label_line ∷ (main_line ∷ front)) (load_line id.PLACE) (extract_line (id.PLACE + 1) id.PLACE ∷ behind) (load (label_line ∷ (main_line ∷ front)) (extract_line (id.PLACE + 1) id.PLACE ∷ behind) id.PLACE refl (front_makes_none id.PLACE (omega arith) refl))
-      (step (load_line id.PLACE ∷ (label_line ∷ (main_line ∷ front))) (extract_line (id.PLACE + 1) id.PLACE) behind (extract (load_line id.PLACE ∷ (label_line ∷ (main_line ∷ front))) behind (id.PLACE + 1) id.PLACE refl (front_makes_none (id.PLACE + 1) (omega arith) refl) load_found refl (omega arith))
+      step front main_line (lines_from true (code_behind k.terms)) (main front (lines_from true (code_behind k.terms)) (front_up_to main_line refl) (front_makes_none id.MAIN (omega arith) refl) (main_ended k.terms) refl)
+      (step (main_line ∷ front) label_line (lines_from true (behind_label k.terms)) (label (main_line ∷ front) (lines_from true (behind_label k.terms)) (front_up_to label_line refl) (front_makes_none id.ENTRY (omega arith) refl) (block_terminated k.terms))
+      (step (label_line ∷ (main_line ∷ front)) (load_line id.PLACE) (extract_line (id.PLACE + 1) id.PLACE ∷ behind) (load (label_line ∷ (main_line ∷ front)) (extract_line (id.PLACE + 1) id.PLACE ∷ behind) id.PLACE (front_up_to (load_line id.PLACE) refl) (front_makes_none id.PLACE (omega arith) refl))
+      (step (load_line id.PLACE ∷ (label_line ∷ (main_line ∷ front))) (extract_line (id.PLACE + 1) id.PLACE) behind (extract (load_line id.PLACE ∷ (label_line ∷ (main_line ∷ front))) behind (id.PLACE + 1) id.PLACE (front_up_to (extract_line (id.PLACE + 1) id.PLACE) refl) (front_makes_none (id.PLACE + 1) (omega arith) refl) load_found refl (omega arith))
       (walk_terms (the_whole k) k.terms place_lines behind_terms place_code place_fresh constants_found zero_uint lines_are (λ c h u e. walk_end (the_whole k) (sum k.terms) c h u main_found e)))))
 
   pub walk : Walk (the_whole k) (behind_head k) (lines_from false (constants_from id.TERMS k.terms ++ code_of k.terms))
-  walk = walk_constants (the_whole k) id.TERMS k.terms (behind_head k) (code_of k.terms) (λ l e. e) (λ x h. head_makes_none k x (omega arith)) refl walk_code
+  walk = walk_constants (the_whole k) id.TERMS k.terms (behind_head k) (code_of k.terms) (up_to (behind_head k) refl) (λ x h. head_makes_none k x (omega arith)) refl walk_code

@@ -213,6 +213,7 @@ one_block _ (exits b e) = refl
 
 two_blocks : (a b : Block) (bs : List Block) → IsSequence (a ∷ (b ∷ bs)) → ⊥
 two_blocks a b bs s = let e = one_block (a ∷ (b ∷ bs)) s in omega arith
+
 -- ---- the operands of each opcode are read as its row of the table says
 
 abbrev is_same : Bool → Bool → Bool

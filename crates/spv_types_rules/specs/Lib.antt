@@ -6,6 +6,7 @@ pub mod Layout
 pub mod Lines
 pub mod Rules
 pub mod Sections
+pub mod Smallest
 pub mod Types
 pub mod Values
 pub mod Variables

@@ -13,7 +13,7 @@ use Rattle.spv_types_rules.specs.Lines.{Line, Whole, Spot, on, has_op, has_op_am
 abbrev pub is_known : Spot → Bool
 is_known s = is_among known_opcodes s.here.op
 
--- Rule 1. The sections stand in order (SPIR-V 2.4). A variable outside functions is one of types, constants and globals. The later of two lines in the wrong order breaks the rule; the first that does so breaks it with the line right before it.
+-- Rule 1. The sections stand in order (SPIR-V 2.4). A variable outside functions is one of types, constants and globals. The later of two lines in the wrong order breaks the rule.
 abbrev pub section_in : List (ℕ × ℕ) → ℕ → ℕ → ℕ
 section_in [] code other = other
 section_in (row ∷ rows) code other = if row.0 == code then row.1 else section_in rows code other
@@ -35,7 +35,7 @@ section l = if has_op op.VARIABLE l && not l.inside then globals_section else se
 
 abbrev pub follows : List Line → Line → Bool
 follows [] l = true
-follows (p ∷ _) l = nat_le (section p) (section l)
+follows (p ∷ ps) l = nat_le (section p) (section l) && follows ps l
 
 abbrev pub is_in_order : Spot → Bool
 is_in_order s = follows s.before s.here

@@ -1,0 +1,48 @@
+-- The smallest module is valid.
+use Rattle.std.proofs.Common.{◌≡◌, ℕ, ◌*◌, ◌≤◌, true, false, List, [], ◌∷◌, length, refl, sym, subst, arith}
+use Rattle.std.specs.Prelude.{All}
+use Rattle.std.specs.List.{list_all}
+use Rattle.std.proofs.lemmas.List.Elements.{All-nil, All-cons}
+use Rattle.std.proofs.lemmas.List.Sums.{AllPass-from_list_all}
+use Rattle.std.proofs.lemmas.Bool.Decides.{nat_tests}
+use Rattle.spv_module.specs.declared.module.Module.{Module}
+use Rattle.spv_module.specs.Grammar.{row_of}
+use Rattle.spv_module.specs.Words.{AreSpelled, IsSpelled, module_words}
+use Rattle.spv_module.proofs.Tests.{AreSpelled-tested}
+use Rattle.spv_types_rules.specs.Lines.{Func, line, whole, lines_of}
+use Rattle.spv_types_rules.specs.Functions.{exits, blocks_in, Block}
+use Rattle.spv_types_rules.specs.Rules.{Rule, rules, is_kept_in, IsFunctionStructured, IsValid}
+use Rattle.spv_types_rules.specs.Smallest.{inst, smallest, smallest_body}
+
+body_spelled : AreSpelled 12 smallest_body
+unfolding row_of
+body_spelled = AreSpelled-tested 12 smallest_body refl
+
+smallest_spelled : IsSpelled smallest
+smallest_spelled = record { version = refl; generator = omega arith; bound_low = omega arith; bound_high = omega arith; body = body_spelled; size = omega arith }
+
+abbrev first_function : List Func → Func
+first_function [] = record { head = line false (inst 0 []); lines = [] }
+first_function (f ∷ _) = f
+
+abbrev first_block : List Block → Block
+first_block [] = record { label = 0; lines = [] }
+first_block (b ∷ _) = b
+
+abbrev the_function : Func
+the_function = first_function (whole (lines_of smallest_body)).functions
+
+structured : All IsFunctionStructured (whole (lines_of smallest_body)).functions
+structured = All-cons IsFunctionStructured the_function [] (exits (first_block (blocks_in the_function.lines)) refl) (All-nil IsFunctionStructured)
+
+kept : list_all (λ (r : Rule). is_kept_in r (whole (lines_of smallest_body))) rules ≡ true
+kept = refl
+
+smallest_valid : IsValid smallest_body
+smallest_valid = record { kept = AllPass-from_list_all (λ (r : Rule). is_kept_in r (whole (lines_of smallest_body))) rules kept; structured = structured }
+
+pub is_spelled : (m : Module) → m ≡ smallest → IsSpelled m
+is_spelled m e = subst IsSpelled (sym e) smallest_spelled
+
+pub is_valid : (m : Module) → m ≡ smallest → IsValid m.body
+is_valid m e = subst (λ (n : Module). IsValid n.body) (sym e) smallest_valid
