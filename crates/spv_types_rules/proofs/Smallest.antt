@@ -1,13 +1,12 @@
 -- The smallest module is valid.
-use Rattle.std.proofs.Common.{◌≡◌, ℕ, ◌*◌, ◌≤◌, true, false, List, [], ◌∷◌, length, refl, sym, subst, arith}
+use Rattle.std.proofs.Common.{◌≡◌, true, false, List, [], ◌∷◌, refl, sym, subst, arith}
 use Rattle.std.specs.Prelude.{All}
 use Rattle.std.specs.List.{list_all}
 use Rattle.std.proofs.lemmas.List.Elements.{All-nil, All-cons}
 use Rattle.std.proofs.lemmas.List.Sums.{AllPass-from_list_all}
-use Rattle.std.proofs.lemmas.Bool.Decides.{nat_tests}
 use Rattle.spv_module.specs.declared.module.Module.{Module}
 use Rattle.spv_module.specs.Grammar.{row_of}
-use Rattle.spv_module.specs.Words.{AreSpelled, IsSpelled, module_words}
+use Rattle.spv_module.specs.Words.{AreSpelled, IsSpelled}
 use Rattle.spv_module.proofs.Tests.{AreSpelled-tested}
 use Rattle.spv_types_rules.specs.Lines.{Func, line, whole, lines_of}
 use Rattle.spv_types_rules.specs.Functions.{exits, blocks_in, Block}

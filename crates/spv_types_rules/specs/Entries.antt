@@ -1,5 +1,5 @@
 -- Rules 25 to 29: entry points, the size of groups, specialisation (SPIR-V 2.16.1 and 3.32.5; Vulkan, A.1).
-use Rattle.std.specs.Prelude.{ℕ, Bool, true, false, not, ◌==◌, ◌&&◌, ◌||◌, nat_eq, if◌then◌else◌, List, [], ◌∷◌, Option, Some, None, bytes_eq}
+use Rattle.std.specs.Prelude.{ℕ, Bool, true, false, not, ◌==◌, ◌&&◌, ◌||◌, if◌then◌else◌, List, [], ◌∷◌, bytes_eq}
 use Rattle.std.specs.List.{list_any, list_all}
 use Rattle.spv_module.specs.declared.op.TheConstants as op
 use Rattle.spv_module.specs.declared.enumerant.storage_class.TheConstants as storage_class

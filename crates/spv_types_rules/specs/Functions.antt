@@ -1,8 +1,8 @@
 -- Rules 31 to 35 and 43: functions, blocks and their structure (SPIR-V 2.4, 2.11 and 2.16.1).
-use Rattle.std.specs.Prelude.{◌≡◌, ℕ, Bool, true, false, not, ◌==◌, ◌&&◌, ◌||◌, if◌then◌else◌, List, [], ◌∷◌, Option, Some, None}
-use Rattle.std.specs.List.{list_any, list_all}
+use Rattle.std.specs.Prelude.{◌≡◌, ℕ, Bool, true, false, not, ◌==◌, ◌&&◌, ◌||◌, if◌then◌else◌, List, [], ◌∷◌, Option, Some}
+use Rattle.std.specs.List.{list_any}
 use Rattle.spv_module.specs.declared.op.TheConstants as op
-use Rattle.spv_types_rules.specs.Lines.{Line, Whole, Func, Spot, only, on, has_op, has_op_among, terminator_opcodes, first, rest, is_some_of, defined, is_op_of, ends_function, to_end, is_ended, same_id}
+use Rattle.spv_types_rules.specs.Lines.{Line, Whole, Spot, only, on, has_op, has_op_among, terminator_opcodes, first, is_some_of, defined, is_op_of, ends_function, to_end, is_ended, same_id}
 use Rattle.spv_types_rules.specs.Sections.{section, functions_section}
 use Rattle.spv_types_rules.specs.Types.{id_of}
 

@@ -1,5 +1,5 @@
 -- The measures of types: bytes, alignment, scalars, depth. Types nest no deeper than there are types.
-use Rattle.std.specs.Prelude.{ℕ, ◌+◌, ◌*◌, ◌-◌, ◌/◌, ◌%◌, Bool, true, false, ◌==◌, ◌&&◌, max, if◌then◌else◌, List, [], ◌∷◌, map, sum, zip, Option, Some, None}
+use Rattle.std.specs.Prelude.{ℕ, ◌+◌, ◌*◌, ◌-◌, ◌/◌, ◌==◌, max, if◌then◌else◌, List, [], ◌∷◌, map, sum, zip, Option, Some, None}
 use Rattle.spv_module.specs.declared.op.TheConstants as op
 use Rattle.spv_module.specs.declared.enumerant.decoration.TheConstants as decoration
 use Rattle.spv_types_rules.specs.Lines.{Line, Whole, has_op, first, defined, parts_by, member_decorations}

@@ -1,11 +1,10 @@
 -- A module's instructions as the rules of validity read them, and where one of them stands.
-use Rattle.std.specs.Prelude.{ℕ, Bool, true, false, not, ◌==◌, nat_eq, ◌&&◌, ◌||◌, cond, if◌then◌else◌, List, [], ◌∷◌, ◌++◌, map, filter, find, Option, Some, None}
-use Rattle.std.specs.List.{list_any, list_all}
+use Rattle.std.specs.Prelude.{ℕ, Bool, true, false, not, ◌==◌, nat_eq, ◌&&◌, ◌||◌, if◌then◌else◌, List, [], ◌∷◌, ◌++◌, map, filter, find, Option, Some, None}
+use Rattle.std.specs.List.{list_any}
 use Rattle.spv_module.specs.declared.module.Inst.{Inst}
 use Rattle.spv_module.specs.declared.module.Operand.{Operand}
-use Rattle.spv_module.specs.declared.module.Operand.TheVariants.{Id, Word, Str}
+use Rattle.spv_module.specs.declared.module.Operand.TheVariants.{Str}
 use Rattle.spv_module.specs.declared.op.TheConstants as op
-use Rattle.spv_module.specs.declared.enumerant.storage_class.TheConstants as storage_class
 use Rattle.spv_module.specs.Grammar.{is_among}
 use Rattle.spv_module.specs.Instructions.{ids, words}
 

@@ -1,9 +1,9 @@
 -- The rules by number, and what it is that a module is valid.
 -- Rules 23, 30, 32, 34, 39, 40 and 42 speak of bools, calls, parameters, branches, atomics, barriers and switches, which no opcode of rule 0 makes: only opcodes outside it could break them.
-use Rattle.std.specs.Prelude.{◌≡◌, ℕ, ◌⊎◌, Bool, true, false, ◌&&◌, List, [], ◌∷◌, length, All, Contains}
+use Rattle.std.specs.Prelude.{◌≡◌, ℕ, Bool, true, false, ◌&&◌, List, [], ◌∷◌, length, All, Contains}
 use Rattle.spv_module.specs.declared.op.TheConstants as op
 use Rattle.spv_module.specs.declared.module.Inst.{Inst}
-use Rattle.spv_types_rules.specs.Lines.{Line, Whole, Func, Spot, whole, lines_of, has_op, to_end}
+use Rattle.spv_types_rules.specs.Lines.{Line, Whole, Func, Spot, whole, lines_of, to_end}
 use Rattle.spv_types_rules.specs.Sections.{is_known, is_in_order, keeps_model, has_model, keeps_capability, has_capabilities, keeps_extension, has_extensions, keeps_import, has_import}
 use Rattle.spv_types_rules.specs.Ids.{defines_once, keeps_kinds, is_ordered, keeps_uses}
 use Rattle.spv_types_rules.specs.Types.{is_new_type, is_good_type, keeps_arrays, keeps_layout, keeps_places, is_small_type}

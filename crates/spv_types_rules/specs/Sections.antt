@@ -7,7 +7,7 @@ use Rattle.spv_module.specs.declared.enumerant.storage_class.TheConstants as sto
 use Rattle.spv_module.specs.declared.enumerant.addressing_model.TheConstants as addressing_model
 use Rattle.spv_module.specs.declared.enumerant.memory_model.TheConstants as memory_model
 use Rattle.spv_module.specs.Grammar.{is_among, capabilities}
-use Rattle.spv_types_rules.specs.Lines.{Line, Whole, Spot, on, has_op, has_op_among, known_opcodes, first, pointee, is_int, within}
+use Rattle.spv_types_rules.specs.Lines.{Line, Whole, Spot, on, has_op, known_opcodes, first, pointee, is_int, within}
 
 -- Rule 0. Each opcode is one that the compiler's modules use so far.
 abbrev pub is_known : Spot → Bool

@@ -1,11 +1,11 @@
 -- Rules 10 to 15: types and their layout (SPIR-V 2.16.1 and 3.32.6; Vulkan, 15.6.4).
-use Rattle.std.specs.Prelude.{ℕ, ◌+◌, ◌%◌, Bool, true, false, not, ◌==◌, ◌&&◌, ◌||◌, nat_le, if◌then◌else◌, List, [], ◌∷◌, Option, Some, None, bytes_eq}
+use Rattle.std.specs.Prelude.{ℕ, ◌+◌, ◌%◌, Bool, true, false, not, ◌==◌, ◌&&◌, ◌||◌, nat_le, List, [], ◌∷◌, Option, Some, None, bytes_eq}
 use Rattle.std.specs.List.{list_any, list_all}
 use Rattle.spv_module.specs.declared.op.TheConstants as op
 use Rattle.spv_module.specs.declared.enumerant.storage_class.TheConstants as storage_class
 use Rattle.spv_module.specs.declared.enumerant.decoration.TheConstants as decoration
 use Rattle.spv_module.specs.Grammar.{is_among}
-use Rattle.spv_types_rules.specs.Lines.{Line, Whole, Spot, only, on, has_op, has_op_among, type_opcodes, data_opcodes, is_id, first, second, names, is_mark, is_op, is_op_among, is_under, decorations, is_decorated, is_member_decorated, member_decorations}
+use Rattle.spv_types_rules.specs.Lines.{Line, Whole, Spot, only, on, has_op, has_op_among, data_opcodes, first, second, names, is_mark, is_op, is_op_among, is_under, decorations, is_decorated, is_member_decorated, member_decorations}
 use Rattle.spv_types_rules.specs.Layout.{alignment, size, scalars, depth}
 
 -- the id that a type's line defines

@@ -1,10 +1,10 @@
 -- Rules 36 to 38, 41 and 44: what instructions take and make (SPIR-V 3.32.5 to 3.32.13).
-use Rattle.std.specs.Prelude.{ℕ, ◌^◌, Bool, true, false, not, ◌==◌, ◌&&◌, ◌||◌, nat_eq, nat_lt, length, if◌then◌else◌, List, [], ◌∷◌, map, slice_get, Option, Some, None}
-use Rattle.std.specs.List.{list_any, list_all}
+use Rattle.std.specs.Prelude.{ℕ, ◌^◌, Bool, true, false, not, ◌==◌, ◌&&◌, ◌||◌, nat_lt, length, if◌then◌else◌, List, [], ◌∷◌, slice_get, Option, Some, None}
+use Rattle.std.specs.List.{list_all}
 use Rattle.spv_module.specs.declared.op.TheConstants as op
 use Rattle.spv_module.specs.Options.{◌>>=◌, only_if}
-use Rattle.spv_types_rules.specs.Lines.{Line, Whole, Spot, on, has_op, has_op_among, first, second, rest, is_some_of, defined, is_op_of, is_int_of, type_of, same_id, storage, pointee}
-use Rattle.spv_types_rules.specs.Variables.{literal, member_by, head_of}
+use Rattle.spv_types_rules.specs.Lines.{Line, Whole, Spot, on, has_op, first, rest, is_some_of, defined, is_op_of, is_int_of, type_of, same_id, storage, pointee}
+use Rattle.spv_types_rules.specs.Variables.{literal, member_by}
 
 -- Rule 36. The operands and the result of OpIAdd are of one int type, or vectors of ints of one width and count.
 -- the width of the ints and their count

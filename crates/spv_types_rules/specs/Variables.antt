@@ -1,13 +1,13 @@
 -- Rules 16 to 24: variables, decorations, memory that isn't changed, pointers (SPIR-V 2.16.1 and 3.20; Vulkan, A.1 and 15.6).
 use Rattle.std.specs.Prelude.{ℕ, ◌+◌, ◌*◌, ◌^◌, Bool, true, false, not, ◌==◌, ◌&&◌, ◌||◌, nat_lt, nat_le, length, if◌then◌else◌, List, [], ◌∷◌, slice_get, Option, Some, None}
-use Rattle.std.specs.List.{list_any, list_all}
+use Rattle.std.specs.List.{list_any}
 use Rattle.spv_module.specs.declared.op.TheConstants as op
 use Rattle.spv_module.specs.declared.enumerant.storage_class.TheConstants as storage_class
 use Rattle.spv_module.specs.declared.enumerant.decoration.TheConstants as decoration
 use Rattle.spv_module.specs.declared.enumerant.built_in.TheConstants as built_in
 use Rattle.spv_module.specs.Grammar.{is_among}
-use Rattle.spv_types_rules.specs.Lines.{Line, Whole, Func, Spot, only, on, has_op, has_op_among, defines, is_id, first, second, rest, names, is_some_of, defined, is_op, is_op_among, is_op_of, is_int, type_of, same_id, storage, pointee, parts, within, decorations, is_decorated, is_member_decorated}
-use Rattle.spv_types_rules.specs.Types.{id_of, is_same_type}
+use Rattle.spv_types_rules.specs.Lines.{Line, Whole, Func, Spot, only, on, has_op, has_op_among, defines, first, second, rest, names, is_some_of, defined, is_op, is_op_of, is_int, storage, pointee, within, decorations, is_decorated, is_member_decorated}
+use Rattle.spv_types_rules.specs.Types.{id_of}
 
 -- Rule 16. A variable has the storage class of its pointer type. Outside functions that is Input, Workgroup, StorageBuffer or PushConstant; inside it is Function, and the variables stand first in the first block.
 abbrev pub is_storage : ℕ → Option ℕ → Bool
