@@ -1,2 +1,3 @@
 mod Samples
 pub mod Smallest
+pub mod Unbroken

@@ -84,3 +84,12 @@ IsFunctionStructured f = IsStructured f.lines
 pub record IsValid (body : List Inst) : Type 0 where
   pub kept : All (IsKept body) rules
   pub structured : All IsFunctionStructured (whole (lines_of body)).functions
+
+-- No line breaks a rule, and the module lacks nothing.
+pub record IsUnbroken (body : List Inst) : Type 0 where
+  pub lines : (n i : ℕ) → Breaks body n i → ⊥
+  pub whole : (n : ℕ) → Lacks body n → ⊥
+
+-- A module is valid exactly where that is so.
+abbrev pub ValidIsUnbroken : Type 0
+ValidIsUnbroken = (body : List Inst) → (IsValid body → IsUnbroken body) × (IsUnbroken body → IsValid body)

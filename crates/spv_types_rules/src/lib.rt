@@ -4,6 +4,7 @@
 #![tactic(auto)]
 
 pub mod checked;
+pub mod laws;
 
 pub use checked::Checked;
 
