@@ -1,7 +1,7 @@
 //! A module of two buffer variables, a kernel whose arguments name them the other way round, and launches.
 
 use crate::binding::{bound_rows, judged};
-use crate::parameters::{Parameter, kernel_row, parameters};
+use crate::parameters::{kernel_row, parameters};
 use crate::start::{BindStop, Bound};
 use clv_place::{List, NoMemory, Text};
 use launch_text::read_launch;
@@ -99,6 +99,18 @@ fn row(alloc: Global, name: &[u8], pairs: &[(u32, u32)]) -> Result<KernelRow, No
 
 const PAIRS: [(u32, u32); 2] = [(1, 0), (0, 1)];
 
+// The strides of what two arguments at these sets and bindings take.
+fn strides(alloc: Global, body: &[Inst], pairs: &[(u32, u32)]) -> Result<Option<[u32; 2]>, Fail> {
+    let row = row(alloc, b"k", pairs)?;
+    let Some(found) = parameters(alloc, body, row.args.as_slice())? else {
+        return Ok(None);
+    };
+    match found.as_slice() {
+        [a, b] => Ok(Some([a.stride, b.stride])),
+        _ => Err("another number of arguments".into()),
+    }
+}
+
 #[test]
 fn takes_what_rows_name(rt: HostRuntime) -> Result<(), Fail> {
     let body = module(rt.alloc())?;
@@ -107,16 +119,9 @@ fn takes_what_rows_name(rt: HostRuntime) -> Result<(), Fail> {
         (&[(0, 1), (1, 0)], Some([4, 8])),
         (&[(0, 1), (0, 0)], None),
     ];
-    for (pairs, strides) in table {
-        let row = row(rt.alloc(), b"k", pairs)?;
-        let found = parameters(rt.alloc(), body.as_slice(), row.args.as_slice())?;
-        match (found, strides) {
-            (Some(found), Some([a, b])) => {
-                let wanted = [Parameter { stride: a }, Parameter { stride: b }];
-                assert_eq!(rt; found.as_slice(), wanted.as_slice());
-            }
-            (found, strides) => assert!(rt; found.is_none() && strides.is_none()),
-        }
+    for (pairs, wanted) in table {
+        let found = strides(rt.alloc(), body.as_slice(), pairs)?;
+        assert_eq!(rt; found, wanted);
     }
     Ok(())
 }
