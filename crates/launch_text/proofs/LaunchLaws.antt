@@ -8,7 +8,7 @@ use Rattle.std.specs.Char.{is_ascii_digit}
 use Rattle.std.specs.Str.Lines.{strip_carriage_return}
 use Rattle.std.specs.Str.Parse.{digits_value}
 use Rattle.std.proofs.lemmas.Bool.{leb-true, eqb-true, eqb-false}
-use Rattle.std.proofs.lemmas.List.Elements.{All-nil, All-head, All-tail, All-push, Contains-push_cases}
+use Rattle.std.proofs.lemmas.List.Elements.{All-nil, All-head, All-tail, All-push, Contains-push, Contains-append_left, Contains-push_cases}
 use Rattle.std.proofs.lemmas.List.Sums.{prefix_len-le-length}
 use Rattle.hex.specs.Hex.{decode_of}
 use Rattle.hex.specs.declared.error.FromHexError.{FromHexError}
@@ -28,7 +28,7 @@ use Rattle.launch_text.specs.declared.said.Said.TheVariants as said
 use Rattle.launch_text.specs.Drafts.{has_ordinal, files_with, taken, finished}
 use Rattle.launch_text.specs.LaunchText.{Fault, with_file, kind_of, is_given, once, said_after, at_line, all_said, launch_said, launch_of}
 use Rattle.launch_text.specs.Lines.{lines_of, words_of}
-use Rattle.launch_text.specs.Readable.{IsSchedule, IsCount, AreDistinct, IsName, IsReadable}
+use Rattle.launch_text.specs.Readable.{IsSchedule, IsCount, AreDistinct, IsName, IsReadable, IsGiven}
 use Rattle.launch_text.specs.Rules.{AreSizes}
 use Rattle.launch_text.specs.WorkItems.{sizes_of}
 use Rattle.launch_text.specs.Said.{number_of, number32_of, grid_of, sizes_said, global_said, local_said, kernel_said, buffer_given, local_given, plain_given, given_said, argument_said, robin_given, seed_given, turns_said, schedule_said, steps_given, steps_said, is_text, words_said, line_said}
@@ -330,6 +330,36 @@ there_more xs files n g old ordinal file c = elim (Contains-push_cases xs (recor
   | inr p ↦ new_there files g file (ap (λ (a : ArgLine). a.kind) p)
 ]
 
+-- ---- each name is of a buffer that is given
+
+abbrev AreGiven : List ArgLine → ℕ → Type 0
+AreGiven xs count = (file : ℕ) → file < count → IsGiven xs file
+
+below_or_last : (a n : ℕ) → a < n + 1 → (a < n) ⊎ (a ≡ n)
+below_or_last zero zero h = inr refl
+below_or_last zero (suc n) h = inl (omega arith)
+below_or_last (suc a) zero h = absurd (omega (arith, h))
+below_or_last (suc a) (suc n) h = elim (below_or_last a n (omega (arith, h))) [ inl p ↦ inl (omega (arith, p)) | inr e ↦ inr (ap suc e) ]
+
+given_still : (xs : List ArgLine) (a : ArgLine) (count : ℕ) → AreGiven xs count → AreGiven (xs ++ a ∷ []) count
+given_still xs a count old file low = let g = old file low in (g.0, Contains-append_left xs (a ∷ []) _ g.1)
+
+given_if : (xs : List ArgLine) (files : List (List ℕ)) (n : ℕ) (name : List ℕ) (b : Bool) → list_any (bytes_eq name) files ≡ b → AreGiven xs (length files) → AreGiven (xs ++ record { ordinal = n; kind = kind.Buffer (position_or_len (bytes_eq name) (cond b files (files ++ name ∷ []))) } ∷ []) (length (cond b files (files ++ name ∷ [])))
+given_if xs files n name true e old file low = given_still xs _ (length files) old file low
+given_if xs files n name false e old file low =
+    let at = position_or_len (bytes_eq name) (files ++ name ∷ []) in
+    let added : ArgLine = record { ordinal = n; kind = kind.Buffer at } in
+    let last : at ≡ length files = place_of_new (bytes_eq name) files name (same_name name) (place_of_none (bytes_eq name) files e) in
+    elim (below_or_last file (length files) (omega (arith, low, length-append files (name ∷ [])))) [
+      | inl p ↦ given_still xs added (length files) old file p
+      | inr q ↦ (n, subst (λ f. Contains (xs ++ added ∷ []) (record { ordinal = n; kind = kind.Buffer f })) (last ∙ sym q) (Contains-push xs added))
+    ]
+
+given_more : (xs : List ArgLine) (files : List (List ℕ)) (n : ℕ) (g : Given) → AreGiven xs (length files) → AreGiven (xs ++ record { ordinal = n; kind = kind_of (files_with files g) g } ∷ []) (length (files_with files g))
+given_more xs files n (given.Buffer file) old = given_if xs files n file (list_any (bytes_eq file) files) refl old
+given_more xs files n (given.Local bytes) old = given_still xs _ (length files) old
+given_more xs files n (given.Plain bytes) old = given_still xs _ (length files) old
+
 -- ---- what the lines have said is a launch so far
 
 pub record IsSound (d : Draft) : Type 0 where
@@ -340,6 +370,7 @@ pub record IsSound (d : Draft) : Type 0 where
   pub steps : (n : ℕ) → d.steps ≡ Some n → IsCount n
   pub once : AreOnce d.args
   pub there : AreThere d.args (length d.files)
+  pub given : AreGiven d.args (length d.files)
   pub files : AreDistinct d.files
   pub named : All IsName d.files
 
@@ -355,6 +386,7 @@ sound_first = record {
   steps = λ n h. absurd (none_some n h);
   once = λ m n a b g h e. absurd (none_some a g);
   there = λ ordinal file c. absurd (none_there _ c);
+  given = λ file low. absurd (let below : file < 0 = low in omega (arith, below));
   files = λ m n name g h. absurd (none_some name g);
   named = All-nil IsName;
 }
@@ -368,9 +400,9 @@ sound_if false d e h k = (let s : d ≡ e = cc in subst IsSound s (h refl))
 
 sound_taken : (d e : Draft) (line : ℕ) (s : Said) → IsSound d → IsFit s → taken d line s ≡ Ok e → IsSound e
 sound_taken d e line said.Nothing h fit k = (let s : d ≡ e = cc in subst IsSound s h)
-sound_taken d e line (said.Kernel name) h fit k = sound_if (is_some d.kernel) _ e (λ p. record { kernel = λ n q. put_fits IsName name n fit q; global = h.global; local = h.local; schedule = h.schedule; steps = h.steps; once = h.once; there = h.there; files = h.files; named = h.named }) k
-sound_taken d e line (said.Global grid) h fit k = sound_if (is_some d.global) _ e (λ p. record { kernel = h.kernel; global = λ g q. put_fits IsGrid grid g fit q; local = h.local; schedule = h.schedule; steps = h.steps; once = h.once; there = h.there; files = h.files; named = h.named }) k
-sound_taken d e line (said.Local grid) h fit k = sound_if (is_some d.local) _ e (λ p. record { kernel = h.kernel; global = h.global; local = λ l q. put_fits (λ (l : LocalLine). IsGrid l.grid) _ l fit q; schedule = h.schedule; steps = h.steps; once = h.once; there = h.there; files = h.files; named = h.named }) k
+sound_taken d e line (said.Kernel name) h fit k = sound_if (is_some d.kernel) _ e (λ p. record { kernel = λ n q. put_fits IsName name n fit q; global = h.global; local = h.local; schedule = h.schedule; steps = h.steps; once = h.once; there = h.there; given = h.given; files = h.files; named = h.named }) k
+sound_taken d e line (said.Global grid) h fit k = sound_if (is_some d.global) _ e (λ p. record { kernel = h.kernel; global = λ g q. put_fits IsGrid grid g fit q; local = h.local; schedule = h.schedule; steps = h.steps; once = h.once; there = h.there; given = h.given; files = h.files; named = h.named }) k
+sound_taken d e line (said.Local grid) h fit k = sound_if (is_some d.local) _ e (λ p. record { kernel = h.kernel; global = h.global; local = λ l q. put_fits (λ (l : LocalLine). IsGrid l.grid) _ l fit q; schedule = h.schedule; steps = h.steps; once = h.once; there = h.there; given = h.given; files = h.files; named = h.named }) k
 sound_taken d e line (said.Argument n g) h fit k = sound_if (list_any (has_ordinal n) d.args) _ e (λ p. record {
   kernel = h.kernel;
   global = h.global;
@@ -379,11 +411,12 @@ sound_taken d e line (said.Argument n g) h fit k = sound_if (list_any (has_ordin
   steps = h.steps;
   once = once_more d.args (record { ordinal = n; kind = kind_of (files_with d.files g) g }) p h.once;
   there = there_more d.args d.files n g h.there;
+  given = given_more d.args d.files n g h.given;
   files = distinct_more d.files g h.files;
   named = named_more d.files n g fit h.named;
 }) k
-sound_taken d e line (said.Schedule schedule) h fit k = sound_if (is_some d.schedule) _ e (λ p. record { kernel = h.kernel; global = h.global; local = h.local; schedule = λ s q. put_fits IsSchedule schedule s fit q; steps = h.steps; once = h.once; there = h.there; files = h.files; named = h.named }) k
-sound_taken d e line (said.Steps count) h fit k = sound_if (is_some d.steps) _ e (λ p. record { kernel = h.kernel; global = h.global; local = h.local; schedule = h.schedule; steps = λ n q. put_fits IsCount count n fit q; once = h.once; there = h.there; files = h.files; named = h.named }) k
+sound_taken d e line (said.Schedule schedule) h fit k = sound_if (is_some d.schedule) _ e (λ p. record { kernel = h.kernel; global = h.global; local = h.local; schedule = λ s q. put_fits IsSchedule schedule s fit q; steps = h.steps; once = h.once; there = h.there; given = h.given; files = h.files; named = h.named }) k
+sound_taken d e line (said.Steps count) h fit k = sound_if (is_some d.steps) _ e (λ p. record { kernel = h.kernel; global = h.global; local = h.local; schedule = h.schedule; steps = λ n q. put_fits IsCount count n fit q; once = h.once; there = h.there; given = h.given; files = h.files; named = h.named }) k
 
 -- ---- all lines
 
@@ -440,6 +473,7 @@ readable_if d l f kernel g o true test is_kernel is_global is_local h few e =
       named = h.named;
       names = names_utf8 d.files h.named;
       few = few;
+      given = h.given;
       schedule = schedule_or d.schedule h.schedule;
       steps = steps_or d.steps h.steps;
     })

@@ -1,5 +1,7 @@
 -- What holds of each launch that a text gives.
-use Rattle.std.specs.Prelude.{◌≡◌, ℕ, ◌^◌, ◌<◌, ◌≤◌, List, length, Some, slice_get, All, IsUtf8}
+use Rattle.std.specs.Prelude.{◌≡◌, ℕ, ◌^◌, ◌<◌, ◌≤◌, List, length, Some, slice_get, All, Contains, IsUtf8}
+use Rattle.launch_text.specs.declared.launch.ArgKind.TheVariants.{Buffer}
+use Rattle.launch_text.specs.declared.launch.ArgLine.{ArgLine}
 use Rattle.launch_text.specs.declared.launch.Launch.{Launch}
 use Rattle.launch_text.specs.declared.launch.Schedule.{Schedule}
 use Rattle.launch_text.specs.declared.launch.Schedule.TheVariants.{Robin, Mixed}
@@ -29,7 +31,11 @@ pub record IsName (name : List ℕ) : Type 0 where
   pub some : 1 ≤ length name
   pub visible : All IsVisible name
 
--- With one buffer for each name it is a launch.
+-- some argument is given the buffer
+abbrev pub IsGiven : List ArgLine → ℕ → Type 0
+IsGiven arguments file = (n : ℕ) × Contains arguments (record { ordinal = n; kind = Buffer file })
+
+-- With one buffer for each name it is a launch, and each is given to some argument.
 pub record IsReadable (l : Launch) : Type 0 where
   pub launch : (buffers : List (List ℕ)) → length buffers ≡ length l.files → IsLaunch (loaded l buffers)
   pub kernel : IsName l.kernel
@@ -37,5 +43,6 @@ pub record IsReadable (l : Launch) : Type 0 where
   pub named : All IsName l.files
   pub names : All IsUtf8 l.files
   pub few : length l.files < 2 ^ 32
+  pub given : (file : ℕ) → file < length l.files → IsGiven l.args file
   pub schedule : IsSchedule l.schedule
   pub steps : IsCount l.steps
