@@ -10,10 +10,11 @@ use Rattle.spv_meaning.specs.declared.trap.TrapKind.{TrapKind}
 use Rattle.spv_meaning.specs.Events.{Spot, Write}
 use Rattle.spv_meaning.specs.Start.{Bound, Specialised, Start}
 use Rattle.spv_meaning.specs.Invocation.{Value, Scalars, PointsAt, Run, run, over, Row, Steps, Questions, Traps, Reached, Inside, Beyond, NoWay, Given, buffer_among, scalar_at}
-use Rattle.run_machine.specs.declared.launch.Start.{Start as Launched}
+use Rattle.vk_bind.specs.declared.start.Start.{Start as Launched}
+use Rattle.vk_bind.specs.Answers.{bound_of, spec_of, start_from}
 use Rattle.run_machine.specs.declared.launch.Scene.{Scene}
-use Rattle.run_machine.specs.declared.launch.Bound.{Bound as LaunchedBound}
-use Rattle.run_machine.specs.declared.launch.Spec.{Spec as LaunchedSpec}
+use Rattle.vk_bind.specs.declared.start.Bound.{Bound as LaunchedBound}
+use Rattle.vk_bind.specs.declared.start.Spec.{Spec as LaunchedSpec}
 use Rattle.run_machine.specs.declared.invocation.Point.{Point}
 use Rattle.run_machine.specs.declared.spot.Spot.{Spot as PlainSpot}
 use Rattle.run_machine.specs.declared.invocation.Value.{Value as PlainValue}
@@ -28,16 +29,16 @@ use Rattle.run_machine.specs.declared.chain.Reached.{Reached as PlainReached}
 use Rattle.run_machine.specs.declared.chain.Reached.TheVariants as way
 
 abbrev pub bound_by : LaunchedBound → Bound
-bound_by b = record { set = b.set; binding = b.binding; buffer = b.buffer }
+bound_by = bound_of
 
 abbrev pub specialised_by : LaunchedSpec → Specialised
-specialised_by s = record { id = s.id; value = s.value }
+specialised_by = spec_of
 
 abbrev pub body_by : Launched → List Inst
-body_by s = s.module.body
+body_by s = s.checked.body
 
 abbrev pub start_by : Launched → Start
-start_by s = record { function = s.function; global = sizes_of s.global; local = sizes_of s.local; buffers = s.buffers; bound = map bound_by s.bound; specialised = map specialised_by s.specs }
+start_by = start_from
 
 abbrev pub point_by : Point → Sizes
 point_by p = record { x = p.x; y = p.y; z = p.z }

@@ -9,12 +9,13 @@ ghost use Rattle.run_machine.specs.Views.{body_by, start_by, run_by};
 ghost use Rattle.run_machine.specs.Machines.{IsAt};
 
 use crate::invocation::{Frame, Run};
-use crate::launch::Start;
+use crate::launch::body_of;
 use crate::machine::Machine;
 use clv_place::{List, NoMemory, Text};
 use spv_module::module::Inst;
 use spv_module::reading::Said;
 use std::alloc::Global;
+use vk_bind::Start;
 
 // The place behind a function's line, or behind the last line where there is none.
 fn place_after(body: &[Inst], function: u32) -> usize
@@ -63,29 +64,26 @@ fn firsts(alloc: Global, function: u32, place: usize, count: u32) -> Result<Vec<
     Ok(runs)
 }
 
-impl Start {
-    // The number of items.
-    pub(crate) fn items(&self) -> u32
-        requires { volume (sizes_of self.now.global) ≤ 16384 }
-        ensures { result ≡ volume (sizes_of self.now.global) }
-    {
-        let [x, y, z] = self.global;
-        (x as u64 * y as u64 * z as u64) as u32
-    }
+// The number of items.
+pub(crate) fn items_of(start: &Start) -> u32
+    requires { volume (sizes_of start.now.global) ≤ 16384 }
+    ensures { result ≡ volume (sizes_of start.now.global) }
+{
+    let [x, y, z] = start.global;
+    (x as u64 * y as u64 * z as u64) as u32
 }
 
 impl Machine {
     /// The machine with all invocations before their first step, and copies of the buffers.
     #[tactic(auto, using(crate::proofs::Openings::opened))]
     pub fn new(alloc: Global, start: Start) -> Result<Machine, NoMemory>
-        requires words { first_word start.module.body (length start.module.body) < 2 ^ 32 }
-        requires few { volume (sizes_of start.global) ≤ 16384 }
+        requires { volume (sizes_of start.global) ≤ 16384 }
         ensures start { IfOk result (λ m. m.start ≡ start) }
         ensures at { IfOk result (λ m. IsAt m (opening (start_by start).buffers)) }
     {
         let buffers = copies(alloc, start.buffers.as_slice())?;
-        let place = place_after(start.body(), start.function);
-        let runs = firsts(alloc, start.function, place, start.items())?;
+        let place = place_after(body_of(&start), start.function);
+        let runs = firsts(alloc, start.function, place, items_of(&start))?;
         Ok(Machine {
             alloc,
             start,

@@ -9,47 +9,11 @@ ghost use Rattle.spv_meaning.specs.Invocation.{constant_by, specialised_to, buff
 ghost use Rattle.run_machine.specs.Views.{body_by, start_by, given_by, buffer_size, bound_by, specialised_by};
 
 use crate::invocation::Point;
-use clv_place::{List, Text};
 use spv_module::enumerant::{built_in, decoration, storage_class};
 use spv_module::lookup::{decoration_number, definition, is_at};
-use spv_module::module::{Inst, Module};
+use spv_module::module::Inst;
 use spv_module::reading::Said;
-
-/// Where a run begins: a module, its entry function, and what the launch gives it.
-#[derive(Drop)]
-pub struct Start {
-    pub module: Module,
-    /// The id of the entry function.
-    pub function: u32,
-    /// The sizes of the grid, and of a group, along x, y and z.
-    pub global: [u32; 3],
-    pub local: [u32; 3],
-    /// So many of the buffers are the launch's, the first ones.
-    pub named: u32,
-    /// The bytes of each buffer.
-    pub buffers: List<Text>,
-    /// What is bound to which buffer.
-    pub bound: List<Bound>,
-    /// The bytes of the push constants.
-    pub push: Text,
-    /// The values of specialisation constants.
-    pub specs: List<Spec>,
-}
-
-/// A buffer bound to a descriptor set and a binding.
-#[derive(Clone, Copy)]
-pub struct Bound {
-    pub set: u32,
-    pub binding: u32,
-    pub buffer: u32,
-}
-
-/// The value of the specialisation constants of a SpecId.
-#[derive(Clone, Copy)]
-pub struct Spec {
-    pub id: u32,
-    pub value: u32,
-}
+use vk_bind::{Bound, Spec, Start};
 
 // The value that a SpecId is given.
 fn specialised(specs: &[Spec], id: u32) -> Option<u32>
@@ -79,22 +43,20 @@ fn buffer_of(body: &[Inst], variable: u32, bound: &[Bound]) -> Option<u32>
     None
 }
 
-impl Start {
-    /// The module's instructions.
-    pub fn body(&self) -> &[Inst]
-        ensures { result.now ≡ body_by self.now }
-    {
-        self.module.body.as_slice()
-    }
+/// The module's instructions.
+pub fn body_of(start: &Start) -> &[Inst]
+    ensures { result.now ≡ body_by start.now }
+{
+    start.checked.module().body.as_slice()
+}
 
-    /// The bytes of a buffer.
-    fn size(&self, buffer: u32) -> Option<usize>
-        ensures { result ≡ size_of (start_by self.now).buffers buffer }
-    {
-        match self.buffers.get(buffer as usize) {
-            Some(bytes) => Some(bytes.len()),
-            None => None,
-        }
+// The bytes of a buffer.
+fn size_of_buffer(start: &Start, buffer: u32) -> Option<usize>
+    ensures { result ≡ size_of (start_by start.now).buffers buffer }
+{
+    match start.buffers.get(buffer as usize) {
+        Some(bytes) => Some(bytes.len()),
+        None => None,
     }
 }
 
@@ -111,7 +73,7 @@ impl Scene<'_> {
     fn specialised_or(&self, id: u32, default: u32) -> u32
         ensures { result ≡ or_default (specialised_to (given_by self.now).start.specialised (decoration_in (given_by self.now).body id deco.SPEC_ID)) default }
     {
-        match decoration_number(self.start.body(), id, decoration::SPEC_ID) {
+        match decoration_number(body_of(self.start), id, decoration::SPEC_ID) {
             Some(number) => match specialised(self.start.specs.as_slice(), number) {
                 Some(value) => value,
                 None => default,
@@ -124,7 +86,7 @@ impl Scene<'_> {
     pub fn constant(&self, id: u32) -> Option<u32>
         ensures { as_scalar result ≡ constant_by (given_by self.now) (definition_in (given_by self.now).body id) }
     {
-        match definition(self.start.body(), id)? {
+        match definition(body_of(self.start), id)? {
             Said::Constant { value, .. } => Some(value),
             Said::SpecConstant { id, default, .. } => Some(self.specialised_or(id, default)),
             _ => None,
@@ -136,9 +98,9 @@ impl Scene<'_> {
     pub fn input(&self, variable: u32) -> Option<[u32; 3]>
         ensures { result ≡ input_of (given_by self.now) (definition_in (given_by self.now).body variable) }
     {
-        match definition(self.start.body(), variable)? {
+        match definition(body_of(self.start), variable)? {
             Said::Variable { id, storage, .. } if storage == storage_class::INPUT => {
-                match decoration_number(self.start.body(), id, decoration::BUILT_IN) {
+                match decoration_number(body_of(self.start), id, decoration::BUILT_IN) {
                     Some(built_in::GLOBAL_INVOCATION_ID) => {
                         Some([self.place.x, self.place.y, self.place.z])
                     }
@@ -153,8 +115,8 @@ impl Scene<'_> {
     pub fn buffer(&self, variable: u32) -> Option<(u32, usize)>
         ensures { result ≡ buffer_size (given_by self.now) variable }
     {
-        let buffer = buffer_of(self.start.body(), variable, self.start.bound.as_slice())?;
-        let size = self.start.size(buffer)?;
+        let buffer = buffer_of(body_of(self.start), variable, self.start.bound.as_slice())?;
+        let size = size_of_buffer(self.start, buffer)?;
         Some((buffer, size))
     }
 }

@@ -15,9 +15,5 @@ pub mod spot;
 pub mod step;
 
 pub use ending::{Ending, Stepped, Trap};
-pub use launch::{Bound, Spec, Start};
 pub use machine::Machine;
 pub use spv_meaning::TrapKind;
-
-#[cfg(test)]
-mod tests;

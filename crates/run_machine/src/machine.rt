@@ -5,9 +5,9 @@ ghost use Rattle.launch_text.specs.WorkItems.{volume, sizes_of};
 ghost use Rattle.spv_module.specs.Interface.{word_at as first_word};
 
 use crate::invocation::Run;
-use crate::launch::Start;
 use clv_place::Text;
 use std::alloc::Global;
+use vk_bind::Start;
 
 /// The invocations of a launch, and its buffers.
 #[derive(Drop)]
@@ -16,7 +16,7 @@ pub struct Machine {
     pub(crate) start: Start,
     pub(crate) buffers: Vec<Text>,
     pub(crate) runs: Vec<Run>,
-    ghost has_words: { first_word start.module.body (length start.module.body) < 2 ^ 32 },
+    ghost has_words: { first_word start.checked.body (length start.checked.body) < 2 ^ 32 },
     ghost has_few: { length runs.items ≤ 16384 },
     ghost has_items: { length runs.items ≡ volume (sizes_of start.global) },
 }

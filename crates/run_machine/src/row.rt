@@ -9,7 +9,7 @@ ghost use Rattle.run_machine.specs.Views.{given_by, values_by, value_by, chain_b
 
 use crate::chain::{Reached, int_width, reach};
 use crate::invocation::{Frame, Value};
-use crate::launch::Scene;
+use crate::launch::{Scene, body_of};
 use crate::spot::Spot;
 use clv_place::NoMemory;
 use spv_meaning::TrapKind;
@@ -138,7 +138,7 @@ impl Scene<'_> {
         ensures way { option_map chain_by result ≡ chain_reached (given_by self.now) base (option_map vec_items indices) }
         ensures near { IfSome result (λ c. IsBelow c.1 (2 ^ 100)) }
     {
-        let body = self.start.body();
+        let body = body_of(self.start);
         let (buffer, size) = self.buffer(base)?;
         let pointer = pointee(body, base)?;
         let block = pointee(body, pointer)?;
@@ -160,7 +160,7 @@ impl Scene<'_> {
         let indices = self.scalars(alloc, frame, operands)?;
         Ok(match self.chain(base, indices) {
             Some((buffer, Reached::Inside { ty, offset })) => {
-                match int_width(self.start.body(), ty) {
+                match int_width(body_of(self.start), ty) {
                     Some(bits) => Did::Gives(
                         id,
                         Value::PointsAt(Spot {

@@ -6,6 +6,7 @@ ghost use Rattle.spv_meaning.specs.Schedule.{numbers_from};
 ghost use Rattle.run_machine.specs.Views.{start_by};
 ghost use Rattle.run_machine.specs.Machines.{IsAt, RunsTo};
 
+use crate::begin::items_of;
 use crate::ending::{Ending, Stepped};
 use crate::machine::Machine;
 use clv_place::NoMemory;
@@ -40,7 +41,7 @@ impl Machine {
         requires begins { IsAt self.old (opening (start_by self.old.start).buffers) }
         ensures { IfOk result (RunsTo turn budget self.old self.new) }
     {
-        let mut queue = all_items(self.alloc, self.start.items())?;
+        let mut queue = all_items(self.alloc, items_of(&self.start))?;
         let mut left = turn;
         for made in 0..budget {
             let Some(item) = front(&mut queue) else {

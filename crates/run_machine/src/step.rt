@@ -12,7 +12,7 @@ ghost use Rattle.run_machine.specs.declared.invocation.Run.TheVariants.{Over};
 
 use crate::ending::{Ending, Stepped, Trap};
 use crate::invocation::{Frame, Named, Point, Run, Value};
-use crate::launch::{Scene, Start};
+use crate::launch::{Scene, body_of};
 use crate::machine::Machine;
 use crate::memory::write;
 use crate::row::Did;
@@ -21,6 +21,7 @@ use clv_place::{List, NoMemory, Text};
 use spv_meaning::TrapKind;
 use spv_module::size::word_at;
 use std::alloc::Global;
+use vk_bind::Start;
 
 impl Frame {
     // Behind the instruction, with a value more where there is one. For want of memory the frame is as
@@ -125,37 +126,35 @@ impl Did {
     }
 }
 
-impl Start {
-    // Where an item stands in the grid.
-    fn point(&self, item: u32) -> Point
-        requires { item < volume (sizes_of self.now.global) }
-        ensures { point_by result ≡ place_in (sizes_of self.now.global) item }
-    {
-        let [x, y, _] = self.global;
-        Point {
-            x: item % x,
-            y: item / x % y,
-            z: (item as u64 / (x as u64 * y as u64)) as u32,
-        }
+// Where an item stands in the grid.
+fn point(start: &Start, item: u32) -> Point
+    requires { item < volume (sizes_of start.now.global) }
+    ensures { point_by result ≡ place_in (sizes_of start.now.global) item }
+{
+    let [x, y, _] = start.global;
+    Point {
+        x: item % x,
+        y: item / x % y,
+        z: (item as u64 / (x as u64 * y as u64)) as u32,
     }
+}
 
-    // What the invocation of an item does next.
-    fn did(&self, alloc: Global, item: u32, run: &Run) -> Result<Did, NoMemory>
-        requires { item < volume (sizes_of self.now.global) }
-        ensures does { IfOk result (λ d. Does (body_by self.now) (start_by self.now) item run.now d) }
-        ensures room { IfOk result (λ d. HasRoom run.now d) }
-    {
-        let Run::At(frame) = run else {
-            return Ok(Did::Returns);
-        };
-        let scene = Scene {
-            start: self,
-            place: self.point(item),
-        };
-        match self.body().get(frame.place) {
-            Some(inst) => scene.row(alloc, frame, inst.says()),
-            None => Ok(Did::Traps(TrapKind::Unreachable)),
-        }
+// What the invocation of an item does next.
+fn did(alloc: Global, start: &Start, item: u32, run: &Run) -> Result<Did, NoMemory>
+    requires { item < volume (sizes_of start.now.global) }
+    ensures does { IfOk result (λ d. Does (body_by start.now) (start_by start.now) item run.now d) }
+    ensures room { IfOk result (λ d. HasRoom run.now d) }
+{
+    let Run::At(frame) = run else {
+        return Ok(Did::Returns);
+    };
+    let scene = Scene {
+        start,
+        place: point(start, item),
+    };
+    match body_of(start).get(frame.place) {
+        Some(inst) => scene.row(alloc, frame, inst.says()),
+        None => Ok(Did::Traps(TrapKind::Unreachable)),
     }
 }
 
@@ -168,7 +167,7 @@ impl Machine {
         ensures item { result.item ≡ item }
         ensures at { StandsIn (body_by self.now.start) (slice_index_or self.now.runs.items item Over) result.function result.word }
     {
-        let body = self.start.body();
+        let body = body_of(&self.start);
         match &self.runs[item as usize] {
             Run::At(frame) => Trap {
                 kind,
@@ -222,7 +221,7 @@ impl Machine {
         ensures stepped { IfOk result (Steps self.old item self.new) }
         ensures refused { OnErr result ((w : Invocations) → IsAt self.old w → IsAt self.new w) }
     {
-        let did = self.start.did(self.alloc, item, &self.runs[item as usize])?;
+        let did = did(self.alloc, &self.start, item, &self.runs[item as usize])?;
         match did {
             Did::Traps(kind) => Ok(Stepped::Trapped(self.trap(kind, item))),
             did => self.make(item, did),

@@ -13,7 +13,7 @@ several left some not_one = omega (arith, some, not_one)
 pub loop-made-init : goal.loop-made-init
 loop-made-init c =
     let m = c.args.self.now in
-    let e : c.in_ok-queue.queue.items ≡ numbers_from 0 (volume (start_by m.start).global) = c.in_ok-queue.ensures ∙ ap (numbers_from 0) c.items.ensures in
+    let e : c.in_ok-queue.queue.items ≡ numbers_from 0 (volume (start_by m.start).global) = c.in_ok-queue.ensures ∙ ap (numbers_from 0) c.items_of.ensures in
     subst (λ q. Held m m c.args.turn c.args.budget q c.args.turn 0) (sym e) (held_start m c.args.turn c.args.budget c.requires.turn c.requires.begins)
 
 pub returns-in_default : goal.returns-in_default
