@@ -2,14 +2,14 @@
 use Rattle.std.proofs.Common.{◌≡◌, ℕ, Bool, true, false, List, [], ◌∷◌, Option, Some, None, cond, refl, sym, ap, ◌∙◌, subst}
 use Rattle.std.specs.Str.{bytes_eq}
 use Rattle.std.proofs.lemmas.Slice.Eq.{bytes_eq-Decides}
-use Rattle.launch_text.specs.Rules.{LoadedLaunch, Parameter, GlobalPointer, IsLaunch, KeepsRules, BrokenRule, IsLeastBroken}
+use Rattle.launch_text.specs.Rules.{LoadedLaunch, Parameter, GlobalPointer, IsLaunch, KeepsRules, IsLeastBroken}
 use Rattle.spv_module.specs.declared.module.Inst.{Inst}
 use Rattle.spv_module.specs.Options.{◌>>=◌, for_each}
 use Rattle.spv_reflect.specs.declared.rows.KernelRow.{KernelRow}
 use Rattle.spv_reflect.specs.declared.rows.Reflection.{Reflection}
 use Rattle.spv_reflect.specs.Reflection.{rows_of}
 use Rattle.spv_meaning.specs.Start.{Start}
-use Rattle.vk_bind.specs.Binding.{parameter_of, kernel_among, start_of, binding_of, takes_in, BindsTo}
+use Rattle.vk_bind.specs.Binding.{parameter_of, kernel_among, start_of, takes_in, BindsTo}
 use Rattle.clv_engine.specs.declared.form.Kernel.{Kernel}
 use Rattle.clv_engine.specs.Emitted.{body_of}
 use Rattle.clv_engine.specs.Promises.{Fits, takes_of, BindingAgrees}

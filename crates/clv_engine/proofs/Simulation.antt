@@ -14,7 +14,6 @@ use Rattle.launch_text.specs.WorkItems.{place_in}
 use Rattle.clv_engine.specs.SourceItem.{Item, item, Surroundings, source_item, first_state}
 use Rattle.clv_engine.specs.Emitted.{body_of}
 use Rattle.spv_reflect.specs.declared.rows.ArgKindRow.TheVariants.{Buffer as BufferRow}
-use Rattle.spv_module.specs.Options.{◌>>=◌}
 use Rattle.spv_meaning.specs.Start.{Start}
 use Rattle.launch_text.specs.Rules.{buffer_given}
 use Rattle.vk_bind.specs.Binding.{BindsTo, bound_by}
@@ -28,7 +27,7 @@ use Rattle.clv_engine.specs.Promises.{Fits, surroundings_of, in_function, ItemSi
 use Rattle.clv_engine.proofs.NumberTests.{less_or_not}
 use Rattle.clv_steps.proofs.Quiet.{Quietly, worth, at_credit, source_quiet, target_quiet}
 use Rattle.clv_engine.proofs.Places.{lies_found}
-use Rattle.clv_engine.proofs.Launches.{HasBuffer, has_buffer, global_id_is, global_id_within, start_for, binds_found, start_only}
+use Rattle.clv_engine.proofs.Launches.{HasBuffer, has_buffer, global_id_is, global_id_within, start_for, start_only}
 use Rattle.clv_engine.proofs.Defined.{each_defined}
 use Rattle.clv_engine.proofs.SourceRun.{total_of, at_index, at_store, written, index_fails, store_fails, store_asks, to_index, to_store}
 use Rattle.clv_engine.proofs.TargetRun.{IsStart, Writes, to_write}

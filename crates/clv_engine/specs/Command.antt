@@ -1,12 +1,11 @@
 -- What the program does with the words of its command line, and what it prints.
-use Rattle.std.specs.Prelude.{◌≡◌, ◌⊎◌, ℕ, ◌*◌, ◌/◌, ◌^◌, ◌<◌, ◌≤◌, Bool, true, false, not, ◌==◌, IsTrue, List, [], ◌∷◌, ◌++◌, length, codes, Some, None}
+use Rattle.std.specs.Prelude.{◌≡◌, ◌⊎◌, ℕ, ◌*◌, ◌/◌, ◌^◌, ◌≤◌, Bool, true, false, not, ◌==◌, IsTrue, List, [], ◌∷◌, ◌++◌, length, codes, Some, None}
 use Rattle.std.specs.Fmt.{decimal}
 use Rattle.clv_place.specs.declared.stop.Offence.{Offence}
 use Rattle.spv_module.specs.declared.module.Module.{Module}
 use Rattle.spv_module.specs.Words.{module_words, SpellsLittle}
 use Rattle.clv_io.specs.Faults.{Rose}
 use Rattle.clv_io.specs.Files.{FilesState, IsSameKind, HoldsTheSame, IsTooLarge, IsCutShort, Lacks}
-use Rattle.clv_io.specs.Sink.{SinkState, Gains, GainsFront}
 use Rattle.spv_types_rules.specs.Rules.{IsValid}
 use Rattle.clv_engine.specs.declared.form.Kernel.{Kernel}
 use Rattle.clv_engine.specs.FirstForm.{IsIn, IsOut}
@@ -20,11 +19,28 @@ abbrev pub is_file_word : List ℕ → Bool
 is_file_word [] = false
 is_file_word (b ∷ bs) = not (b == 45)
 
--- `compile SOURCE MODULE`
-pub record IsCompile (words : List (List ℕ)) (source target : List ℕ) : Type 0 where
-  pub words_are : words ≡ codes "compile" ∷ source ∷ target ∷ []
-  pub source_word : is_file_word source ≡ true
-  pub target_word : is_file_word target ≡ true
+-- What the words of a command line ask for.
+pub data Command : Type 0 where
+  Compile : (source target : List ℕ) → Command
+  Run : (source launch : List ℕ) → Command
+
+-- `compile SOURCE MODULE`, `run SOURCE LAUNCH`
+abbrev pub words_of : Command → List (List ℕ)
+words_of (Compile source target) = codes "compile" ∷ source ∷ target ∷ []
+words_of (Run source launch) = codes "run" ∷ source ∷ launch ∷ []
+
+abbrev pub first_file : Command → List ℕ
+first_file (Compile source target) = source
+first_file (Run source launch) = source
+
+abbrev pub second_file : Command → List ℕ
+second_file (Compile source target) = target
+second_file (Run source launch) = launch
+
+pub record IsCommand (words : List (List ℕ)) (c : Command) : Type 0 where
+  pub words_are : words ≡ words_of c
+  pub first_word : is_file_word (first_file c) ≡ true
+  pub second_word : is_file_word (second_file c) ≡ true
 
 -- A module that is good for a text: the text is accepted as a kernel, the module is valid, the reflection and the interface are the kernel's, launches bind to it as they fit the kernel, and the module serves each of its work-items, and all of them together in any order. Two bounds.
 pub record IsGood (text : List ℕ) (m : Module) : Type 0 where
@@ -127,46 +143,13 @@ pub record NotStored (old new : FilesState) (source target : List ℕ) : Type 0 
   pub full : IsTrue old.is_steady → Lacks (old.room target) (length bytes)
   pub files : HoldsCut old new target bytes
 
--- What a call with these words comes to: its status and the text that it prints.
-pub data ComesTo (words : List (List ℕ)) (old new : FilesState) : ℕ → List ℕ → Type 0 where
-  compiled : (source target : List ℕ) (count : ℕ) → IsCompile words source target → Stored old new source target count → ComesTo words old new 0 (module_text count)
-  refused : (source target : List ℕ) (o : Offence) → IsCompile words source target → Refused old new source o → ComesTo words old new 1 (source_text o)
-  misused : ((source target : List ℕ) → IsCompile words source target → ⊥) → new ≡ old → ComesTo words old new 2 words_text
-  not_loaded : (source target : List ℕ) → IsCompile words source target → NotLoaded old new source → ComesTo words old new 3 (file_text source)
-  not_stored : (source target : List ℕ) → IsCompile words source target → NotStored old new source target → ComesTo words old new 3 (file_text target)
-  starved : (source target : List ℕ) → IsCompile words source target → IsUnchanged old new → ComesTo words old new 4 memory_text
-
--- ---- what it answers
-
--- The text is printed whole, and the status is its own.
-pub record IsPrinted (old new : SinkState) (text : List ℕ) : Type 0 where
-  pub tells : new.tells ≡ old.tells
-  pub is_steady : new.is_steady ≡ old.is_steady
-  pub gained : IsTrue old.tells → Gains old new text
-
--- Printing has failed: status 9, whatever it was. A front of the text is there; in a steady sink the text had no room.
-pub record IsNotPrinted (old new : SinkState) (text : List ℕ) : Type 0 where
-  pub rose : Rose old.faults new.faults
-  pub front : IsTrue old.tells → GainsFront old new text
-  pub full : IsTrue old.is_steady → old.room < length text
-
--- The answer to a text that is to be printed under a status.
-abbrev pub Prints : SinkState → SinkState → ℕ → List ℕ → ℕ → Type 0
-Prints old new status text answer = ((answer ≡ status) × IsPrinted old new text) ⊎ ((answer ≡ 9) × IsNotPrinted old new text)
-
-pub record Answers (words : List (List ℕ)) (files files' : FilesState) (sink sink' : SinkState) (answer : ℕ) : Type 0 where
-  pub status : ℕ
-  pub text : List ℕ
-  pub comes : ComesTo words files files' status text
-  pub printed : Prints sink sink' status text answer
-
--- Where the files tell what they hold, and neither they nor the sink have failed in this call, what the source holds decides: an accepted text gives 0, any other gives 1, unless memory is wanted.
-pub record Decides (text : List ℕ) (answer : ℕ) : Type 0 where
-  pub accepted : (k : Kernel) → IsIn text k → (answer ≡ 0) ⊎ (answer ≡ 4)
-  pub refused : (o : Offence) → IsOut text o → (answer ≡ 1) ⊎ (answer ≡ 4)
-
-pub record IsDecided (words : List (List ℕ)) (files files' : FilesState) (sink sink' : SinkState) (answer : ℕ) : Type 0 where
-  pub each : (source target text : List ℕ) → IsCompile words source target → IsTrue files.tells → files.held source ≡ Some text → (Rose files.faults files'.faults → ⊥) → (Rose sink.faults sink'.faults → ⊥) → Decides text answer
+-- What `compile` comes to: its status and the text that it prints.
+pub data CompileComesTo (source target : List ℕ) (old new : FilesState) : ℕ → List ℕ → Type 0 where
+  compiled : (count : ℕ) → Stored old new source target count → CompileComesTo source target old new 0 (module_text count)
+  refused : (o : Offence) → Refused old new source o → CompileComesTo source target old new 1 (source_text o)
+  not_loaded : NotLoaded old new source → CompileComesTo source target old new 3 (file_text source)
+  not_stored : NotStored old new source target → CompileComesTo source target old new 3 (file_text target)
+  starved : IsUnchanged old new → CompileComesTo source target old new 4 memory_text
 
 -- ---- parts
 
@@ -174,7 +157,3 @@ pub record IsDecided (words : List (List ℕ)) (files files' : FilesState) (sink
 pub data StoreEnds (old new : FilesState) (name bytes : List ℕ) (status : ℕ) (text : List ℕ) : Type 0 where
   is_stored : status ≡ 0 → text ≡ module_text (length bytes / 4) → HoldsNow old new name bytes → StoreEnds old new name bytes status text
   is_cut : status ≡ 3 → text ≡ file_text name → Rose old.faults new.faults → (IsTrue old.is_steady → Lacks (old.room name) (length bytes)) → HoldsCut old new name bytes → StoreEnds old new name bytes status text
-
--- what a command with these files comes to
-abbrev pub FilesComeTo : List ℕ → List ℕ → FilesState → FilesState → ℕ → List ℕ → Type 0
-FilesComeTo source target old new status text = (words : List (List ℕ)) → IsCompile words source target → ComesTo words old new status text

@@ -1,3 +1,4 @@
+pub mod Asking
 pub mod Command
 pub mod Emitted
 pub mod FirstForm
@@ -7,4 +8,7 @@ pub mod KernelRows
 pub mod LaunchWorlds
 pub mod Lexing
 pub mod Promises
+pub mod RunCommand
+pub mod RunSteps
 pub mod SourceItem
+pub mod TopCall

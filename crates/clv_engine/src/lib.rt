@@ -1,5 +1,5 @@
-//! The house itself: from the words of the command line to files and a status, and the compiler that
-//! the command `compile` is.
+//! The house itself: from the words of the command line to files and a status; the compiler that the
+//! command `compile` is, and the command `run`, which compiles, binds, runs and stores.
 #![tactic(auto)]
 
 mod command;
@@ -8,6 +8,12 @@ mod emit;
 mod form;
 mod front;
 mod id;
+mod load;
+mod marks;
+mod outcome;
+mod report;
+mod run_file;
+mod run_module;
 #[cfg(test)]
 mod tests;
 mod token;

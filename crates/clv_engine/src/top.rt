@@ -1,56 +1,23 @@
 //! The top call: all that the program does.
 
 ghost use Rattle.std.specs.Prelude.{◌≡◌, map, string_bytes, IfOk, OnErr};
-ghost use Rattle.clv_engine.specs.Command.{module_text, source_text, file_text, StoreEnds, FilesComeTo, IsUnchanged, Prints, Answers, IsDecided};
+ghost use Rattle.clv_engine.specs.Asking.{asked_by};
+ghost use Rattle.clv_engine.specs.Command.{StoreEnds, CompileComesTo, IsUnchanged};
+ghost use Rattle.clv_engine.specs.TopCall.{CommandComesTo, Prints, Answers, IsDecided};
 
-use crate::command::files_of_compile;
+use crate::command::{Command, command_of};
 use crate::compiler::compile;
+use crate::report::{Report, report_file, report_module, report_refused};
+use crate::run_file::run_file;
 use clv_io::{Files, LoadFault, Sink};
-use clv_place::{NoMemory, Offence, Place, Stop, Text};
+use clv_place::{NoMemory, Offence, Place, Stop};
 use std::alloc::Global;
 
 /// The most bytes of a source.
 pub const MAX_SOURCE: usize = 1_048_576;
 
-// What a command comes to: its status, and the text that is printed for it.
-#[derive(Drop)]
-struct Report {
-    status: u8,
-    text: String,
-}
-
-fn report_refused(alloc: Global, offence: Offence) -> Result<Report, NoMemory>
-    ensures { IfOk result (λ r. (r.status ≡ 1) × (string_bytes r.text ≡ source_text offence)) }
-{
-    let code = offence.code;
-    let line = offence.place.line;
-    let col = offence.place.col;
-    Ok(Report {
-        status: 1,
-        text: format!(in alloc; "source {code} {line}:{col}\n")?,
-    })
-}
-
-fn report_file(alloc: Global, name: &str) -> Result<Report, NoMemory>
-    ensures { IfOk result (λ r. (r.status ≡ 3) × (string_bytes r.text ≡ file_text name.now)) }
-{
-    Ok(Report {
-        status: 3,
-        text: format!(in alloc; "file {name}\n")?,
-    })
-}
-
-fn report_module(alloc: Global, words: usize) -> Result<Report, NoMemory>
-    ensures { IfOk result (λ r. (r.status ≡ 0) × (string_bytes r.text ≡ module_text words)) }
-{
-    Ok(Report {
-        status: 0,
-        text: format!(in alloc; "module {words} words\n")?,
-    })
-}
-
 // The source is larger than a text may be.
-const TOO_LARGE: Offence = Offence {
+pub const TOO_LARGE: Offence = Offence {
     code: 105,
     place: Place { line: 1, col: 1 },
 };
@@ -82,7 +49,7 @@ fn compile_file<F: Files>(
     target: &str,
     files: &mut F,
 ) -> Result<Report, NoMemory>
-    ensures ok { IfOk result (λ r. FilesComeTo source.now target.now (F.state files.old) (F.state files.new) r.status (string_bytes r.text)) }
+    ensures ok { IfOk result (λ r. CompileComesTo source.now target.now (F.state files.old) (F.state files.new) r.status (string_bytes r.text)) }
     ensures err { OnErr result (IsUnchanged (F.state files.old) (F.state files.new)) }
 {
     match files.load(alloc, source, MAX_SOURCE) {
@@ -108,6 +75,17 @@ fn print<O: Sink>(out: &mut O, status: u8, text: &[u8]) -> u8
     }
 }
 
+// Does what a command asks for.
+fn do_command<F: Files>(alloc: Global, command: Command, files: &mut F) -> Result<Report, NoMemory>
+    ensures ok { IfOk result (λ r. CommandComesTo (asked_by command.entry) (F.state files.old) (F.state files.new) r.status (string_bytes r.text)) }
+    ensures err { OnErr result (IsUnchanged (F.state files.old) (F.state files.new)) }
+{
+    match command {
+        Command::Compile { source, target } => compile_file(alloc, source, target, files),
+        Command::Run { source, launch } => run_file(alloc, source, launch, files),
+    }
+}
+
 // Does what the words of the command line say, and prints a line.
 fn answer_words<F: Files, O: Sink>(
     alloc: Global,
@@ -117,9 +95,9 @@ fn answer_words<F: Files, O: Sink>(
 ) -> u8
     ensures { Answers (map string_bytes words.now) (F.state files.old) (F.state files.new) (O.state out.old) (O.state out.new) result }
 {
-    match files_of_compile(words) {
+    match command_of(words) {
         None => print(out, 2, b"words\n"),
-        Some((source, target)) => match compile_file(alloc, source, target, files) {
+        Some(command) => match do_command(alloc, command, files) {
             Ok(report) => print(out, report.status, report.text.as_bytes()),
             Err(NoMemory) => print(out, 4, b"memory\n"),
         },
@@ -127,8 +105,10 @@ fn answer_words<F: Files, O: Sink>(
 }
 
 /// Does what the words of the command line say, prints a line, and answers the status: 0 where the
-/// module is stored, 1 where the source is refused, 2 where the words are no command, 3 where a file
-/// could not be loaded or stored, 4 for want of memory, 9 where the line could not be printed.
+/// module is stored, or the run is complete and its buffers are stored; 1 where the source is refused; 2
+/// where the words are no command; 3 where a file could not be loaded or stored; 4 for want of memory; 6
+/// where the launch breaks a rule; 7 where the run traps; 8 where its steps are spent; 9 where the line
+/// could not be printed.
 #[tactic(auto, using(crate::proofs::Decided::decided))]
 pub fn clv_top<F: Files, O: Sink>(alloc: Global, words: &[String], files: &mut F, out: &mut O) -> u8
     ensures answer { Answers (map string_bytes words.now) (F.state files.old) (F.state files.new) (O.state out.old) (O.state out.new) result }
