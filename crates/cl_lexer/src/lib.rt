@@ -1,0 +1,17 @@
+//! The doorway of the compiler: the text of a unit read into tokens, exactly, or refused at its first
+//! offence.
+#![tactic(auto)]
+
+mod byte;
+mod character;
+mod front;
+mod joined;
+mod mark;
+mod number;
+pub mod read;
+#[cfg(test)]
+mod tests;
+pub mod token;
+
+pub use read::{MAX_TEXT, lex, one_verdict};
+pub use token::{Token, TokenKind, Tokens};
