@@ -75,12 +75,15 @@ is_load old mid new names bs i at name shown l before low e f h = record { befor
 named_at : (old mid new : FilesState) (names bs : List (List ℕ)) (i at : ℕ) (name : List ℕ) (l : Loaded) → IsLoad old mid new names bs i at name l → slice_get names at ≡ Some name
 named_at old mid new names bs i at name l s = (let low = s.low in subst (λ n. slice_get names n ≡ Some name) (sym s.before.count) (slice_get_read names (length names) i name refl low s.name_is))
 
+held_at : (old mid new : FilesState) (names bs : List (List ℕ)) (i at : ℕ) (name : List ℕ) (l : Loaded) → IsLoad old mid new names bs i at name l → HoldBuffers old (take at names) bs
+held_at old mid new names bs i at name l s = subst (λ n. HoldBuffers old (take n names) bs) (sym s.before.count) s.before.held
+
 pub buffers_large : (old mid new : FilesState) (names bs : List (List ℕ)) (i at : ℕ) (name : List ℕ) (l : Loaded) → IsLoad old mid new names bs i at name l → l ≡ TooLarge → BuffersLoad old new names (buffers.TooLarge at)
 buffers_large old mid new names bs i at name l s e =
     let x : LoadAnswers mid new name 16777216 TooLarge = subst (LoadAnswers mid new name 16777216) e s.loads.answers in
     record {
       same = unchanged_then old mid new s.before.same s.loads.same;
-      answers = (name, x.0, named_at old mid new names bs i at name l s, large_before old mid name 16777216 x.0 s.before.same x.1);
+      answers = (name, x.0, named_at old mid new names bs i at name l s, large_before old mid name 16777216 x.0 s.before.same x.1, bs, held_at old mid new names bs i at name l s);
     }
 
 pub buffers_absent : (old mid new : FilesState) (names bs : List (List ℕ)) (i at : ℕ) (name : List ℕ) (l : Loaded) → (IsTrue old.is_steady → IsTrue old.tells) → IsLoad old mid new names bs i at name l → l ≡ Absent → BuffersLoad old new names (buffers.Absent at)
@@ -88,7 +91,7 @@ buffers_absent old mid new names bs i at name l tells s e =
     let x : LoadAnswers mid new name 16777216 Absent = subst (LoadAnswers mid new name 16777216) e s.loads.answers in
     record {
       same = unchanged_then old mid new s.before.same s.loads.same;
-      answers = (name, named_at old mid new names bs i at name l s, absent_before old mid new name (record { same = s.before.same; tells = tells }) x);
+      answers = (name, named_at old mid new names bs i at name l s, absent_before old mid new name (record { same = s.before.same; tells = tells }) x, bs, held_at old mid new names bs i at name l s);
     }
 
 pub more_loaded : (old mid new : FilesState) (names bs pushed : List (List ℕ)) (i at : ℕ) (name : List ℕ) (l : Loaded) (b : List ℕ) → IsLoad old mid new names bs i at name l → l ≡ Held b → pushed ≡ bs ++ b ∷ [] → LoadedSoFar old new names pushed (i + 1) (at + 1)

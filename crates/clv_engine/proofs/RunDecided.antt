@@ -14,7 +14,7 @@ use Rattle.clv_engine.specs.declared.form.Kernel.{Kernel}
 use Rattle.clv_engine.specs.FirstForm.{IsIn, IsOut}
 use Rattle.clv_engine.specs.LaunchWorlds.{shared_of, source_world}
 use Rattle.clv_engine.specs.Promises.{Fits, takes_of}
-use Rattle.clv_engine.specs.RunCommand.{Reads, whole, over, IsRefused, is_out, is_over, HoldBuffers, IsReady, IsLoaded, ModuleRuns, RunComesTo, absent, refused, faulty, seeded, buffer_absent, buffer_over, misfit, trapped, spent, ran, unstored, starved}
+use Rattle.clv_engine.specs.RunCommand.{Reads, whole, over, IsRefused, is_out, is_over, HoldBuffers, IsReady, IsLoaded, ModuleRuns, RunComesTo, absent, launch_absent, refused, faulty, seeded, buffer_absent, buffer_over, misfit, trapped, spent, ran, unstored, starved}
 use Rattle.clv_engine.specs.TopCall.{EndsRun, IsAsked, RunDecides}
 use Rattle.clv_engine.specs.TopCall.{done as ends_done, not_run as ends_not_run, trapped as ends_trapped, spent as ends_spent, starved as ends_starved}
 use Rattle.clv_engine.proofs.BindingFacts.{bound_taken}
@@ -62,12 +62,13 @@ data Ended (source launch : List ℕ) (files : FilesState) (status : ℕ) : Type
   has_run : (r : IsReady files source launch) (turn : ℕ) (l : LoadedLaunch) (e : Ending) (w : Invocations) → IsLoaded r turn l → ModuleRuns r.compiled.made l turn r.plan.steps e w → status ≡ status_by e → Ended source launch files status
 
 ends_so : (files files2 : FilesState) (source launch text said : List ℕ) (k : Kernel) (status : ℕ) (out : List ℕ) → RunGiven files files2 source launch text said → IsIn text k → RunComesTo source launch files files2 status out → Ended source launch files status
-ends_so files files2 source launch text said k _ _ g i (absent name c n) = absurd (g.calm n.rose)
+ends_so files files2 source launch text said k _ _ g i (absent n) = absurd (g.calm n.rose)
+ends_so files files2 source launch text said k _ _ g i (launch_absent s h n) = absurd (g.calm n.rose)
 ends_so files files2 source launch text said k _ _ g i (refused o s rs x u) = absurd (refused_in files files2 source launch text said k o s s g i rs refl x)
 ends_so files files2 source launch text said k _ _ g i (faulty t bytes number line s is c rs x u) = is_told (inl refl)
 ends_so files files2 source launch text said k _ _ g i (seeded r seed e u) = is_told (inl refl)
-ends_so files files2 source launch text said k _ _ g i (buffer_absent r name c n) = absurd (g.calm n.rose)
-ends_so files files2 source launch text said k _ _ g i (buffer_over r file seen n name e x y u) = is_told (inl refl)
+ends_so files files2 source launch text said k _ _ g i (buffer_absent r file name bs c d n) = absurd (g.calm n.rose)
+ends_so files files2 source launch text said k _ _ g i (buffer_over r file seen n name bs e h x y u) = is_told (inl refl)
 ends_so files files2 source launch text said k _ _ g i (misfit r turn l b is x u) = is_told (inl refl)
 ends_so files files2 source launch text said k _ _ g i (trapped r turn l t steps w is x u) = has_run r turn l (HasTrapped t steps) w is x refl
 ends_so files files2 source launch text said k _ _ g i (spent r turn l w is x u) = has_run r turn l IsSpent w is x refl
@@ -172,12 +173,13 @@ out_ready : (files files2 : FilesState) (source launch text said : List ℕ) (o 
 out_ready files files2 source launch text said o g x r = in_out text r.compiled.good.kernel o (ready_in files files2 source launch text said g r) x
 
 out_gives : (files files2 : FilesState) (source launch text said : List ℕ) (o : Offence) (status : ℕ) (out : List ℕ) → RunGiven files files2 source launch text said → IsOut text o → RunComesTo source launch files files2 status out → (status ≡ 1) ⊎ (status ≡ 4)
-out_gives files files2 source launch text said o _ _ g i (absent name c n) = absurd (g.calm n.rose)
+out_gives files files2 source launch text said o _ _ g i (absent n) = absurd (g.calm n.rose)
+out_gives files files2 source launch text said o _ _ g i (launch_absent s h n) = absurd (g.calm n.rose)
 out_gives files files2 source launch text said o _ _ g i (refused p s rs x u) = inl refl
 out_gives files files2 source launch text said o _ _ g i (faulty t bytes number line s is c rs x u) = absurd (in_out text c.good.kernel o (subst (λ z. IsIn z c.good.kernel) (text_is files source text t g.told g.held is) c.good.accepted) i)
 out_gives files files2 source launch text said o _ _ g i (seeded r seed e u) = absurd (out_ready files files2 source launch text said o g i r)
-out_gives files files2 source launch text said o _ _ g i (buffer_absent r name c n) = absurd (g.calm n.rose)
-out_gives files files2 source launch text said o _ _ g i (buffer_over r file seen n name e x y u) = absurd (out_ready files files2 source launch text said o g i r)
+out_gives files files2 source launch text said o _ _ g i (buffer_absent r file name bs c d n) = absurd (g.calm n.rose)
+out_gives files files2 source launch text said o _ _ g i (buffer_over r file seen n name bs e h x y u) = absurd (out_ready files files2 source launch text said o g i r)
 out_gives files files2 source launch text said o _ _ g i (misfit r turn l b is x u) = absurd (out_ready files files2 source launch text said o g i r)
 out_gives files files2 source launch text said o _ _ g i (trapped r turn l t steps w is x u) = absurd (out_ready files files2 source launch text said o g i r)
 out_gives files files2 source launch text said o _ _ g i (spent r turn l w is x u) = absurd (out_ready files files2 source launch text said o g i r)

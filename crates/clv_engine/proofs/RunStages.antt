@@ -1,5 +1,5 @@
 -- What the steps of `run` come to, each from what its callee came to.
-use Rattle.std.proofs.Common.{◌≡◌, ℕ, zero, suc, ◌+◌, ◌≤◌, ◌<◌, Bool, true, false, cond, List, [], ◌∷◌, length, IsTrue, Option, Some, None, Ok, Err, refl, sym, ap, ◌∙◌, subst, arith, get_or, slice_get, Contains}
+use Rattle.std.proofs.Common.{◌≡◌, ℕ, zero, suc, ◌+◌, ◌≤◌, ◌<◌, Bool, true, false, cond, List, [], ◌∷◌, length, IsTrue, Option, Some, None, Ok, Err, refl, sym, ap, ◌∙◌, subst, arith, get_or, slice_get, take, Contains}
 use Rattle.std.proofs.lemmas.Option.{slice_get_within, get_or_from_slice_get}
 use Rattle.clv_place.specs.declared.stop.Offence.{Offence}
 use Rattle.clv_io.specs.Files.{FilesState}
@@ -21,7 +21,7 @@ use Rattle.clv_engine.specs.declared.outcome.Outcome.{Outcome}
 use Rattle.clv_engine.specs.declared.outcome.Outcome.TheVariants as outcome
 use Rattle.clv_engine.specs.FirstForm.{IsOut}
 use Rattle.clv_engine.specs.Command.{IsText, IsUnchanged, IsCompiled, file_text, source_text}
-use Rattle.clv_engine.specs.RunCommand.{launch_line_text, launch_rule_text, trap_text, spent_text, Reads, whole, over, IsFaulty, is_broken, is_long, IsRefused, is_out, is_over, HoldBuffers, IsReady, IsLeastGiven, is_marked, stores_from, IsRun, IsLoaded, RunComesTo, absent, refused, faulty, seeded, buffer_absent, buffer_over, misfit, trapped, spent, ran, unstored}
+use Rattle.clv_engine.specs.RunCommand.{launch_line_text, launch_rule_text, trap_text, spent_text, Reads, whole, over, IsFaulty, is_broken, is_long, IsRefused, is_out, is_over, HoldBuffers, IsReady, IsLeastGiven, is_marked, stores_from, IsRun, IsLoaded, RunComesTo, absent, launch_absent, refused, faulty, seeded, buffer_absent, buffer_over, misfit, trapped, spent, ran, unstored}
 use Rattle.run_machine.specs.Machines.{trap_by}
 use Rattle.clv_engine.specs.RunSteps.{Since, LoadsAs, LoadAnswers, BuffersLoad, BuffersAnswer, marks, IsComplete, ComesOut, stores_of, StoresComeTo, all_stored, one_failed, AreBuffers, JudgesTo, PlansTo, IsPlanned, GoesTo, BuffersGoTo, IsRunnable, OutcomeOf}
 use Rattle.clv_engine.proofs.TopSteps.{told_later}
@@ -55,10 +55,10 @@ reads_before old mid name max _ u (whole text i l) = whole text (text_before old
 reads_before old mid name max _ u (over seen l) = over seen (large_before old mid name max seen u l)
 
 pub source_absent : (source launch : List ℕ) (old new : FilesState) (max : ℕ) (l : Loaded) (status : ℕ) (text : List ℕ) → LoadsAs old new source max l → l ≡ Absent → status ≡ 3 → text ≡ file_text source → RunComesTo source launch old new status text
-source_absent source launch old new max l status text h e f g = run_at source launch old new 3 status _ text (absent source (0, omega arith, refl) (subst (LoadAnswers old new source max) e h.answers)) f g
+source_absent source launch old new max l status text h e f g = run_at source launch old new 3 status _ text (absent (subst (LoadAnswers old new source max) e h.answers)) f g
 
-pub launch_absent : (source launch : List ℕ) (old mid new : FilesState) (max max2 : ℕ) (l l2 : Loaded) (status : ℕ) (text : List ℕ) → LoadsAs old mid source max l → (IsTrue old.is_steady → IsTrue old.tells) → LoadsAs mid new launch max2 l2 → l2 ≡ Absent → status ≡ 3 → text ≡ file_text launch → RunComesTo source launch old new status text
-launch_absent source launch old mid new max max2 l l2 status text h tells k e f g = run_at source launch old new 3 status _ text (absent launch (1, omega arith, refl) (absent_before old mid new launch (record { same = h.same; tells = tells }) (subst (LoadAnswers mid new launch max2) e k.answers))) f g
+pub no_launch : (source launch : List ℕ) (old mid new : FilesState) (max max2 : ℕ) (l l2 : Loaded) (status : ℕ) (text : List ℕ) (s : Option (List ℕ)) → Reads old source 1048576 s → LoadsAs old mid source max l → (IsTrue old.is_steady → IsTrue old.tells) → LoadsAs mid new launch max2 l2 → l2 ≡ Absent → status ≡ 3 → text ≡ file_text launch → RunComesTo source launch old new status text
+no_launch source launch old mid new max max2 l l2 status text s r h tells k e f g = run_at source launch old new 3 status _ text (launch_absent s r (absent_before old mid new launch (record { same = h.same; tells = tells }) (subst (LoadAnswers mid new launch max2) e k.answers))) f g
 
 pub since_both : (old mid new : FilesState) (a b : List ℕ) (max max2 : ℕ) (l l2 : Loaded) → LoadsAs old mid a max l → (IsTrue old.is_steady → IsTrue old.tells) → LoadsAs mid new b max2 l2 → Since old new
 since_both old mid new a b max max2 l l2 h tells k = record { same = unchanged_then old mid new h.same k.same; tells = tells }
@@ -146,14 +146,13 @@ pub absent_goes : (bytes : List ℕ) (plan : Launch) (at : ℕ) (mid new : Files
 absent_goes bytes plan at mid new lent name shown status text h l e s f g = λ source launch old r p since.
     let x = h.answers in
     let named : name ≡ x.0 = e ∙ ap (λ (ns : List (List ℕ)). get_or ns at name) l ∙ get_or_from_slice_get plan.files at x.0 name x.1 in
-    let there : Contains plan.files x.0 = (at, slice_get_within plan.files at x.0 x.1, get_or_from_slice_get plan.files at x.0 x.0 x.1) in
-    run_at source launch old new 3 status _ text (buffer_absent r x.0 (subst (λ (q : Launch). Contains q.files x.0) (sym p.plan_is) there) (absent_before old mid new x.0 since x.2)) f (g ∙ ap file_text (s ∙ named))
+    run_at source launch old new 3 status _ text (buffer_absent r at x.0 x.3 (subst (λ (q : Launch). slice_get q.files at ≡ Some x.0) (sym p.plan_is) x.1) (subst (λ (q : Launch). HoldBuffers old (take at q.files) x.3) (sym p.plan_is) (hold_before old mid (take at plan.files) x.3 since.same x.4)) (absent_before old mid new x.0 since x.2)) f (g ∙ ap file_text (s ∙ named))
 
 pub large_goes : (bytes : List ℕ) (plan : Launch) (at least : ℕ) (mid new : FilesState) (lent : List ArgLine) (status : ℕ) (text : List ℕ) → AreLoaded plan mid new (buffers.TooLarge at) → lent ≡ plan.args → IsLeastGiven lent at least → status ≡ 6 → text ≡ launch_rule_text (record { number = 14; argument = Some least }) → GoesTo bytes plan mid new status text
 large_goes bytes plan at least mid new lent status text h l k f g = λ source launch old r p since.
     let x = h.answers in
     let given = subst (λ (q : Launch). IsLeastGiven q.args at least) (sym p.plan_is) (subst (λ (as_ : List ArgLine). IsLeastGiven as_ at least) l k) in
-    run_at source launch old new 6 status _ text (buffer_over r at x.1 least x.0 (subst (λ (q : Launch). slice_get q.files at ≡ Some x.0) (sym p.plan_is) x.2) (large_before old mid x.0 16777216 x.1 since.same x.3) given (unchanged_then old mid new since.same h.same)) f g
+    run_at source launch old new 6 status _ text (buffer_over r at x.1 least x.0 x.4 (subst (λ (q : Launch). slice_get q.files at ≡ Some x.0) (sym p.plan_is) x.2) (subst (λ (q : Launch). HoldBuffers old (take at q.files) x.4) (sym p.plan_is) (hold_before old mid (take at plan.files) x.4 since.same x.5)) (large_before old mid x.0 16777216 x.1 since.same x.3) given (unchanged_then old mid new since.same h.same)) f g
 
 -- ---- the module is run
 

@@ -1,5 +1,5 @@
 -- What `run` does with a source, a launch and the files that the launch names, and what it prints.
-use Rattle.std.specs.Prelude.{◌≡◌, ◌≢◌, ℕ, ◌+◌, ◌*◌, ◌<◌, ◌≤◌, Bool, false, not, ◌&&◌, nat_eq, IsTrue, if◌then◌else◌, List, [], ◌∷◌, ◌++◌, length, codes, Option, Some, None, Ok, Err, Contains, slice_get}
+use Rattle.std.specs.Prelude.{◌≡◌, ◌≢◌, ℕ, ◌+◌, ◌*◌, ◌<◌, ◌≤◌, Bool, false, not, ◌&&◌, nat_eq, IsTrue, if◌then◌else◌, List, [], ◌∷◌, ◌++◌, length, codes, Option, Some, None, Ok, Err, Contains, slice_get, take}
 use Rattle.std.specs.Fmt.{decimal}
 use Rattle.std.specs.List.{list_any}
 use Rattle.clv_place.specs.declared.stop.Offence.{Offence}
@@ -171,14 +171,15 @@ pub record IsLoaded {old : FilesState} {source launch : List ℕ} (r : IsReady o
 -- What `run` comes to: its status and the text that it prints.
 pub data RunComesTo (source launch : List ℕ) (old new : FilesState) : ℕ → List ℕ → Type 0 where
   -- the source, or the launch
-  absent : (name : List ℕ) → Contains (source ∷ launch ∷ []) name → NotLoaded old new name → RunComesTo source launch old new 3 (file_text name)
+  absent : NotLoaded old new source → RunComesTo source launch old new 3 (file_text source)
+  launch_absent : (s : Option (List ℕ)) → Reads old source 1048576 s → NotLoaded old new launch → RunComesTo source launch old new 3 (file_text launch)
   refused : (o : Offence) (s : Option (List ℕ)) → Reads old source 1048576 s → IsRefused o s → IsUnchanged old new → RunComesTo source launch old new 1 (source_text o)
   faulty : (text bytes : List ℕ) (number line : ℕ) (s : Option (List ℕ)) → IsText old source text → IsCompiled text bytes → Reads old launch 65536 s → IsFaulty number line s → IsUnchanged old new → RunComesTo source launch old new 6 (launch_line_text number line)
   -- L30: no seeded schedule yet
   seeded : (r : IsReady old source launch) (seed : ℕ) → r.plan.schedule ≡ Mixed seed → IsUnchanged old new → RunComesTo source launch old new 6 (launch_rule_text (record { number = 30; argument = None }))
-  -- a buffer
-  buffer_absent : (r : IsReady old source launch) (name : List ℕ) → Contains r.plan.files name → NotLoaded old new name → RunComesTo source launch old new 3 (file_text name)
-  buffer_over : (r : IsReady old source launch) (file seen n : ℕ) (name : List ℕ) → slice_get r.plan.files file ≡ Some name → IsTooLarge old name 16777216 seen → IsLeastGiven r.plan.args file n → IsUnchanged old new → RunComesTo source launch old new 6 (launch_rule_text (record { number = 14; argument = Some n }))
+  -- the first of the buffers that isn't there, or is too large
+  buffer_absent : (r : IsReady old source launch) (file : ℕ) (name : List ℕ) (bs : List (List ℕ)) → slice_get r.plan.files file ≡ Some name → HoldBuffers old (take file r.plan.files) bs → NotLoaded old new name → RunComesTo source launch old new 3 (file_text name)
+  buffer_over : (r : IsReady old source launch) (file seen n : ℕ) (name : List ℕ) (bs : List (List ℕ)) → slice_get r.plan.files file ≡ Some name → HoldBuffers old (take file r.plan.files) bs → IsTooLarge old name 16777216 seen → IsLeastGiven r.plan.args file n → IsUnchanged old new → RunComesTo source launch old new 6 (launch_rule_text (record { number = 14; argument = Some n }))
   -- the launch doesn't fit the kernel
   misfit : (r : IsReady old source launch) (turn : ℕ) (l : LoadedLaunch) (b : BrokenRule) → IsLoaded r turn l → IsLeastBroken l (takes_of r.compiled.good.kernel l.kernel) b → IsUnchanged old new → RunComesTo source launch old new 6 (launch_rule_text b)
   trapped : (r : IsReady old source launch) (turn : ℕ) (l : LoadedLaunch) (t : Trapped) (steps : ℕ) (w : Invocations) → IsLoaded r turn l → ModuleRuns r.compiled.made l turn r.plan.steps (HasTrapped t steps) w → IsUnchanged old new → RunComesTo source launch old new 7 (trap_text t)

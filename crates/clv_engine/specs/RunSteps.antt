@@ -1,5 +1,5 @@
 -- What the steps of the command `run` come to, each from what those before it found.
-use Rattle.std.specs.Prelude.{◌≡◌, ℕ, ◌+◌, ◌≤◌, Bool, true, false, List, [], ◌∷◌, ◌++◌, length, Option, Some, Result, Ok, Err, slice_get, IsTrue, string_bytes}
+use Rattle.std.specs.Prelude.{◌≡◌, ℕ, ◌+◌, ◌≤◌, Bool, true, false, List, [], ◌∷◌, ◌++◌, length, Option, Some, Result, Ok, Err, slice_get, IsTrue, string_bytes, take}
 use Rattle.clv_io.specs.Files.{FilesState, IsTooLarge}
 use Rattle.launch_text.specs.declared.launch.Launch.{Launch}
 use Rattle.launch_text.specs.declared.launch.Schedule.TheVariants.{Robin}
@@ -47,8 +47,8 @@ pub record LoadsAs (old new : FilesState) (name : List ℕ) (max : ℕ) (l : Loa
 -- the buffers of some names: all of them, or the number of the first that isn't there, or is over 16 MiB
 abbrev pub BuffersAnswer : FilesState → FilesState → List (List ℕ) → LoadedBuffers → Type 0
 BuffersAnswer old new names (buffers.Held bs) = HoldBuffers old names bs
-BuffersAnswer old new names (buffers.Absent at) = (name : List ℕ) × (slice_get names at ≡ Some name) × NotLoaded old new name
-BuffersAnswer old new names (buffers.TooLarge at) = (name : List ℕ) × (seen : ℕ) × (slice_get names at ≡ Some name) × IsTooLarge old name 16777216 seen
+BuffersAnswer old new names (buffers.Absent at) = (name : List ℕ) × (slice_get names at ≡ Some name) × NotLoaded old new name × (bs : Buffers) × HoldBuffers old (take at names) bs
+BuffersAnswer old new names (buffers.TooLarge at) = (name : List ℕ) × (seen : ℕ) × (slice_get names at ≡ Some name) × IsTooLarge old name 16777216 seen × (bs : Buffers) × HoldBuffers old (take at names) bs
 
 pub record BuffersLoad (old new : FilesState) (names : List (List ℕ)) (b : LoadedBuffers) : Type 0 where
   pub same : IsUnchanged old new
