@@ -6,3 +6,4 @@ pub mod Words
 pub mod Stepping
 pub mod Turning
 pub mod Openings
+pub mod Counting

@@ -1,5 +1,5 @@
 -- Decorations with one number.
-use Rattle.std.proofs.Common.{◌≡◌, ℕ, Bool, true, false, nat_eq, List, [], ◌∷◌, Option, Some, None, refl, sym, ap, ◌∙◌}
+use Rattle.std.proofs.Common.{◌≡◌, ℕ, false, nat_eq, List, [], ◌∷◌, Option, Some, None, refl, ap}
 use Rattle.spv_module.specs.Interface.{is_number, number_of}
 use Rattle.spv_meaning.specs.Start.{Specialised}
 use Rattle.spv_meaning.specs.Invocation.{specialised_to}

@@ -1,5 +1,5 @@
 -- The machine before its first step.
-use Rattle.std.proofs.Common.{◌≡◌, ℕ, zero, suc, ◌+◌, ◌<◌, ◌≤◌, List, [], ◌∷◌, ◌++◌, refl, sym, ap, ◌∙◌, subst, length, get_or, map, arith}
+use Rattle.std.proofs.Common.{◌≡◌, ℕ, zero, suc, ◌+◌, ◌<◌, List, [], ◌∷◌, ◌++◌, refl, sym, ap, ◌∙◌, length, get_or, map, arith}
 use Rattle.std.specs.Prelude.{replicate}
 use Rattle.std.proofs.lemmas.List.{length-map}
 use Rattle.launch_text.specs.WorkItems.{volume}
@@ -7,7 +7,6 @@ use Rattle.clv_worlds.specs.Worlds.{opening}
 use Rattle.spv_module.specs.declared.module.Inst.{Inst}
 use Rattle.spv_meaning.specs.Start.{Start}
 use Rattle.spv_meaning.specs.Invocation.{Run, run, over, place_after}
-use Rattle.spv_meaning.specs.Schedule.{Invocations}
 use Rattle.run_machine.specs.declared.invocation.Run.{Run as PlainRun}
 use Rattle.run_machine.specs.Views.{run_by}
 use Rattle.run_machine.specs.Machines.{Stand}

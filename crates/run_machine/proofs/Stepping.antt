@@ -1,5 +1,5 @@
 -- One step of an item, at a world.
-use Rattle.std.proofs.Common.{◌≡◌, ◌≢◌, ℕ, zero, suc, ◌+◌, ◌<◌, ◌≤◌, inl, inr, List, [], ◌∷◌, ◌++◌, Option, Some, None, refl, sym, ap, ◌∙◌, subst, length, get_or, set, map, arith}
+use Rattle.std.proofs.Common.{◌≡◌, ◌≢◌, ℕ, zero, suc, ◌<◌, inl, inr, List, [], ◌∷◌, ◌++◌, refl, sym, ap, ◌∙◌, subst, length, get_or, set, map, arith}
 use Rattle.std.specs.Prelude.{slice_get, Result, Ok, Err, OnOk, OnErr, IfOk}
 use Rattle.std.proofs.Math.Seq.{map-set_same}
 use Rattle.std.proofs.lemmas.Bool.{cases_eq}
@@ -12,7 +12,7 @@ use Rattle.clv_worlds.proofs.Picks.{pick_same, pick_other}
 use Rattle.spv_module.specs.declared.module.Inst.{Inst}
 use Rattle.spv_meaning.specs.Events.{Asked}
 use Rattle.spv_meaning.specs.Start.{Start}
-use Rattle.spv_meaning.specs.Invocation.{Run, run, over, Row, Steps, Questions, Traps, row_by, said_at, status_by, next_by, status, next, invocation, given_of, first_run, kind_by}
+use Rattle.spv_meaning.specs.Invocation.{Run, over, Row, Steps, Questions, Traps, status_by, next_by, status, next, invocation, given_of, first_run, kind_by}
 use Rattle.spv_meaning.specs.Worlds.{Buffers, after_event}
 use Rattle.spv_meaning.specs.Schedule.{Invocations, run_of, status_of, after_status, after_step, Trapped, TrapsAt}
 use Rattle.run_machine.specs.declared.invocation.Frame.{Frame}
@@ -25,7 +25,7 @@ use Rattle.run_machine.specs.declared.ending.Stepped.TheVariants.{Went, Ended, T
 use Rattle.run_machine.specs.declared.machine.Machine.{Machine}
 use Rattle.clv_place.specs.declared.stop.NoMemory.{NoMemory}
 use Rattle.spv_meaning.specs.declared.trap.TrapKind.{TrapKind}
-use Rattle.run_machine.specs.Views.{run_by, frame_by, values_by, row_of, body_by, start_by}
+use Rattle.run_machine.specs.Views.{run_by, frame_by, row_of, body_by, start_by}
 use Rattle.run_machine.specs.Machines.{Stand, next_as, written_by, stepped_by, Does, IsGoing, IsReady, IsAt, StandsIn, StepsAt, Steps as StepsTo, runs_of}
 
 -- ---- what is going

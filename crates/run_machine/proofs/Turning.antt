@@ -1,15 +1,13 @@
 -- A run by turns: whatever completes the rest completes the whole.
-use Rattle.std.proofs.Common.{◌≡◌, ◌≢◌, ℕ, zero, suc, ◌+◌, ◌-◌, ◌<◌, ◌≤◌, inl, inr, List, [], ◌∷◌, ◌++◌, Option, Some, None, refl, sym, ap, ◌∙◌, subst, length, get_or, set, map, arith}
+use Rattle.std.proofs.Common.{◌≡◌, ◌≢◌, ℕ, zero, suc, ◌+◌, ◌-◌, ◌<◌, ◌≤◌, List, [], ◌∷◌, ◌++◌, refl, sym, ap, ◌∙◌, subst, length, get_or, arith}
 use Rattle.std.specs.Prelude.{slice_get}
-use Rattle.std.proofs.lemmas.Bool.{cases_eq}
 use Rattle.std.proofs.lemmas.List.{length-map}
 use Rattle.launch_text.specs.WorkItems.{volume}
-use Rattle.clv_steps.specs.Machines.{Status, Runs, Asks, Ends, Fails, IsLive}
+use Rattle.clv_steps.specs.Machines.{Ends, Fails, IsLive}
 use Rattle.clv_worlds.specs.Worlds.{opening}
 use Rattle.spv_module.specs.declared.module.Inst.{Inst}
 use Rattle.spv_meaning.specs.Start.{Start}
-use Rattle.spv_meaning.specs.Invocation.{Run, status, given_of, row_by, said_at, over}
-use Rattle.spv_meaning.specs.Worlds.{Buffers}
+use Rattle.spv_meaning.specs.Invocation.{Run, status, given_of}
 use Rattle.spv_meaning.specs.Schedule.{Invocations, run_of, status_of, after_step, TrapsAt, Trapped, Ending, IsDone, HasTrapped, IsSpent, Turns, complete, spent, turned, traps, ends, goes, numbers_from, ScheduledRun}
 use Rattle.run_machine.specs.declared.invocation.Run.{Run as PlainRun}
 use Rattle.run_machine.specs.declared.invocation.Run.TheVariants.{At, Over}

@@ -1,7 +1,7 @@
 -- Values by their ids, the newest last.
-use Rattle.std.proofs.Common.{◌≡◌, ℕ, zero, suc, ◌+◌, ◌<◌, List, [], ◌∷◌, ◌++◌, Option, Some, None, refl, sym, ap, ◌∙◌, take, length, get_or, slice_get, append_assoc}
+use Rattle.std.proofs.Common.{◌≡◌, ℕ, ◌+◌, ◌<◌, List, [], ◌∷◌, ◌++◌, Option, Some, None, refl, sym, ap, ◌∙◌, take, length, get_or, append_assoc}
 use Rattle.std.proofs.lemmas.List.{take_more, append-nil}
-use Rattle.spv_meaning.specs.Invocation.{Value, Scalars, PointsAt, Given, value_among, scalar_by, as_scalar, scalar_at, scalars_at, extracted}
+use Rattle.spv_meaning.specs.Invocation.{Value, Scalars, PointsAt, Given, scalar_by, as_scalar, scalar_at, scalars_at, extracted}
 use Rattle.spv_module.specs.Interface.{number_of}
 use Rattle.spv_module.specs.Options.{◌>>=◌}
 use Rattle.run_machine.specs.declared.invocation.Named.{Named}

@@ -1,9 +1,9 @@
 -- Words of instructions.
-use Rattle.std.proofs.Common.{◌≡◌, ℕ, zero, suc, ◌+◌, ◌<◌, ◌≤◌, ◌^◌, List, [], ◌∷◌, ◌++◌, refl, sym, ap, ◌∙◌, subst, length, take, arith}
+use Rattle.std.proofs.Common.{◌≡◌, ℕ, zero, suc, ◌+◌, ◌≤◌, List, [], ◌∷◌, sym, ap, ◌∙◌, length, take, arith}
 use Rattle.std.specs.List.{flat_map}
 use Rattle.std.proofs.lemmas.List.{length-append, take_all}
 use Rattle.spv_module.specs.declared.module.Inst.{Inst}
-use Rattle.spv_module.specs.Words.{inst_words, body_words}
+use Rattle.spv_module.specs.Words.{inst_words}
 use Rattle.spv_module.specs.Interface.{word_at}
 
 fewer : (body : List Inst) (place : ℕ) → length (flat_map inst_words (take place body)) ≤ length (flat_map inst_words body)

@@ -1,5 +1,5 @@
 -- Bytes put into buffers.
-use Rattle.std.proofs.Common.{◌≡◌, ℕ, zero, suc, ◌+◌, ◌-◌, ◌*◌, ◌/◌, ◌%◌, ◌<◌, ◌≤◌, List, [], ◌∷◌, ◌++◌, refl, sym, ap, ◌∙◌, subst, length, get_or, set, arith}
+use Rattle.std.proofs.Common.{◌≡◌, ℕ, zero, suc, ◌+◌, ◌-◌, ◌/◌, ◌%◌, ◌<◌, ◌≤◌, List, [], ◌∷◌, refl, ap, ◌∙◌, length, get_or, set, arith}
 use Rattle.spv_meaning.specs.Worlds.{low_bytes, put_at, put_in}
 
 less_more : (count k : ℕ) → k < count → count - k ≡ suc (count - (k + 1))

@@ -1,12 +1,13 @@
 -- The machine at a world of the module's invocations.
-use Rattle.std.specs.Prelude.{◌≡◌, ◌≢◌, ℕ, ◌+◌, ◌<◌, ◌^◌, List, map, length, slice_index_or, slice_get, slice_set, Option, Some, None}
+use Rattle.std.specs.Prelude.{◌≡◌, ◌≢◌, ℕ, ◌+◌, ◌<◌, ◌^◌, List, map, length, slice_index_or, slice_get, Option, Some, None}
 use Rattle.launch_text.specs.WorkItems.{volume}
-use Rattle.clv_steps.specs.Machines.{Status, Asks, Ends, Fails, IsLive}
+use Rattle.clv_steps.specs.Machines.{Ends, Fails, IsLive}
 use Rattle.spv_module.specs.declared.module.Inst.{Inst}
 use Rattle.spv_module.specs.Interface.{word_at}
-use Rattle.spv_meaning.specs.Events.{Asked, Write}
+use Rattle.spv_meaning.specs.Events.{Write}
 use Rattle.spv_meaning.specs.Start.{Start}
-use Rattle.spv_meaning.specs.Invocation.{Run, run, over, next_by, row_by, said_at, given_of}
+use Rattle.spv_meaning.specs.Invocation.{Run, over, next_by, row_by, said_at, given_of}
+use Rattle.spv_meaning.specs.Cells.{cells_needed, MAX_CELLS}
 use Rattle.spv_meaning.specs.Worlds.{Buffers, after_event}
 use Rattle.spv_meaning.specs.Schedule.{Invocations, run_of, status_of, after_step, Trapped, TrapsAt, Ending, IsDone, HasTrapped, IsSpent, ScheduledRun}
 use Rattle.run_machine.specs.declared.invocation.Run.{Run as PlainRun}
@@ -20,6 +21,9 @@ use Rattle.run_machine.specs.declared.ending.Ending.{Ending as PlainEnding}
 use Rattle.run_machine.specs.declared.ending.Ending.TheVariants as ending
 use Rattle.run_machine.specs.declared.machine.Machine.{Machine}
 use Rattle.run_machine.specs.declared.spot.Spot.{Spot}
+use Rattle.run_machine.specs.declared.stop.NewStop.{NewStop}
+use Rattle.run_machine.specs.declared.stop.NewStop.TheVariants.{Cells, NoMemory}
+use Rattle.run_machine.specs.Capped.{capped}
 use Rattle.run_machine.specs.Views.{body_by, start_by, run_by, row_of, values_by, spot_of}
 
 abbrev pub trap_by : Trap → Trapped
@@ -73,6 +77,11 @@ runs_of m = map run_by m.runs.items
 
 abbrev pub IsAt : Machine → Invocations → Type 0
 IsAt m w = Stand (body_by m.start) (start_by m.start) m.buffers.items (runs_of m) w
+
+-- Why there is no machine: the cells that the launch needs are more than there may be; or want of memory, of which nothing is said.
+abbrev pub IsStopOf : List Inst → Start → NewStop → Type 0
+IsStopOf body start (Cells need) = (MAX_CELLS < cells_needed body start) × (need ≡ capped (cells_needed body start))
+IsStopOf body start NoMemory = Unit {0}
 
 abbrev pub IsGoing : Option PlainRun → Type 0
 IsGoing (Some (invocation.At f)) = Unit {0}

@@ -1,12 +1,11 @@
 -- What the machine's values mean.
-use Rattle.std.specs.Prelude.{◌≡◌, ℕ, ◌+◌, ◌<◌, List, [], ◌∷◌, ◌++◌, map, Option, Some, None}
+use Rattle.std.specs.Prelude.{ℕ, ◌+◌, ◌<◌, List, [], ◌∷◌, ◌++◌, Option, Some}
 use Rattle.std.specs.Global.{Vec}
 use Rattle.clv_num.specs.Numbers.{add_of}
 use Rattle.launch_text.specs.Rules.{size_of}
 use Rattle.spv_module.specs.Options.{◌>>=◌}
-use Rattle.launch_text.specs.WorkItems.{Sizes, sizes_of, place_in}
+use Rattle.launch_text.specs.WorkItems.{Sizes}
 use Rattle.spv_module.specs.declared.module.Inst.{Inst}
-use Rattle.spv_meaning.specs.declared.trap.TrapKind.{TrapKind}
 use Rattle.spv_meaning.specs.Events.{Spot, Write}
 use Rattle.spv_meaning.specs.Start.{Bound, Specialised, Start}
 use Rattle.spv_meaning.specs.Invocation.{Value, Scalars, PointsAt, Run, run, over, Row, Steps, Questions, Traps, Reached, Inside, Beyond, NoWay, Given, buffer_among, scalar_at}

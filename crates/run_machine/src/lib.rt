@@ -3,6 +3,7 @@
 #![tactic(auto)]
 
 pub mod begin;
+pub mod cells;
 pub mod chain;
 pub mod ending;
 pub mod invocation;
@@ -13,7 +14,9 @@ pub mod row;
 pub mod run;
 pub mod spot;
 pub mod step;
+pub mod stop;
 
 pub use ending::{Ending, Stepped, Trap};
 pub use machine::Machine;
 pub use spv_meaning::TrapKind;
+pub use stop::NewStop;

@@ -1,4 +1,4 @@
-use Rattle.std.proofs.Common.{◌≡◌, ◌+◌, ◌≤◌, length}
+use Rattle.std.proofs.Common.{◌≡◌, ◌+◌, length}
 use Rattle.spv_meaning.specs.Invocation.{place_after}
 use Rattle.run_machine.proofs.begin.place_after.Given as goal
 

@@ -1,4 +1,4 @@
-use Rattle.std.proofs.Common.{◌≡◌, ◌+◌, ◌*◌, ◌-◌, ◌^◌, ◌≤◌, length}
+use Rattle.std.proofs.Common.{◌≡◌, ◌+◌, ◌*◌, ◌-◌, ◌≤◌, length}
 use Rattle.spv_meaning.specs.Invocation.{reached, Inside}
 use Rattle.run_machine.specs.Views.{reached_by, IsBelow}
 use Rattle.run_machine.proofs.chain.reach.Given as goal

@@ -1,4 +1,4 @@
-use Rattle.std.proofs.Common.{◌≡◌, ℕ, ◌≤◌, take, length, [], ◌∷◌}
+use Rattle.std.proofs.Common.{◌≡◌, ◌≤◌, take, length, []}
 use Rattle.spv_meaning.specs.Invocation.{value_among}
 use Rattle.run_machine.specs.Views.{values_by, newest_first}
 use Rattle.run_machine.proofs.invocation.Frame.value.Given as goal

@@ -1,4 +1,3 @@
-use Rattle.std.proofs.Common.{◌≡◌}
 use Rattle.run_machine.proofs.Turning.{Held}
 use Rattle.run_machine.proofs.machine.Machine.run.Given as goal
 

@@ -1,4 +1,4 @@
-use Rattle.std.proofs.Common.{◌≡◌, refl, sym, ap, ◌∙◌, subst}
+use Rattle.std.proofs.Common.{sym, ap, ◌∙◌, subst}
 use Rattle.run_machine.specs.declared.row.Did.TheVariants as did
 use Rattle.run_machine.specs.Views.{body_by, start_by}
 use Rattle.run_machine.specs.Machines.{Does, trap_by}
