@@ -14,7 +14,7 @@ use Rattle.clv_engine.specs.declared.form.Kernel.{Kernel}
 use Rattle.clv_engine.specs.FirstForm.{IsIn, IsOut}
 use Rattle.clv_engine.specs.LaunchWorlds.{shared_of, source_world}
 use Rattle.clv_engine.specs.Promises.{Fits, takes_of}
-use Rattle.clv_engine.specs.RunCommand.{Reads, whole, over, IsRefused, is_out, is_over, HoldBuffers, IsReady, IsLoaded, ModuleRuns, RunComesTo, absent, launch_absent, refused, faulty, seeded, buffer_absent, buffer_over, misfit, trapped, spent, ran, unstored, starved}
+use Rattle.clv_engine.specs.RunCommand.{Reads, whole, over, IsRefused, is_out, is_over, HoldBuffers, IsReady, IsLoaded, ModuleRuns, RunComesTo, absent, launch_absent, refused, faulty, seeded, buffer_absent, buffer_over, misfit, too_much, trapped, spent, ran, unstored, starved}
 use Rattle.clv_engine.specs.TopCall.{EndsRun, IsAsked, RunDecides}
 use Rattle.clv_engine.specs.TopCall.{done as ends_done, not_run as ends_not_run, trapped as ends_trapped, spent as ends_spent, starved as ends_starved}
 use Rattle.clv_engine.proofs.BindingFacts.{bound_taken}
@@ -70,6 +70,7 @@ ends_so files files2 source launch text said k _ _ g i (seeded r seed e u) = is_
 ends_so files files2 source launch text said k _ _ g i (buffer_absent r file name bs c d n) = absurd (g.calm n.rose)
 ends_so files files2 source launch text said k _ _ g i (buffer_over r file seen n name bs e h x y u) = is_told (inl refl)
 ends_so files files2 source launch text said k _ _ g i (misfit r turn l b is x u) = is_told (inl refl)
+ends_so files files2 source launch text said k _ _ g i (too_much r turn l is x u) = is_told (inl refl)
 ends_so files files2 source launch text said k _ _ g i (trapped r turn l t steps w is x u) = has_run r turn l (HasTrapped t steps) w is x refl
 ends_so files files2 source launch text said k _ _ g i (spent r turn l w is x u) = has_run r turn l IsSpent w is x refl
 ends_so files files2 source launch text said k _ _ g i (ran r turn l steps stores is x h) = has_run r turn l (IsDone steps) x.world is x.runs refl
@@ -181,6 +182,7 @@ out_gives files files2 source launch text said o _ _ g i (seeded r seed e u) = a
 out_gives files files2 source launch text said o _ _ g i (buffer_absent r file name bs c d n) = absurd (g.calm n.rose)
 out_gives files files2 source launch text said o _ _ g i (buffer_over r file seen n name bs e h x y u) = absurd (out_ready files files2 source launch text said o g i r)
 out_gives files files2 source launch text said o _ _ g i (misfit r turn l b is x u) = absurd (out_ready files files2 source launch text said o g i r)
+out_gives files files2 source launch text said o _ _ g i (too_much r turn l is x u) = absurd (out_ready files files2 source launch text said o g i r)
 out_gives files files2 source launch text said o _ _ g i (trapped r turn l t steps w is x u) = absurd (out_ready files files2 source launch text said o g i r)
 out_gives files files2 source launch text said o _ _ g i (spent r turn l w is x u) = absurd (out_ready files files2 source launch text said o g i r)
 out_gives files files2 source launch text said o _ _ g i (ran r turn l steps stores is x h) = absurd (out_ready files files2 source launch text said o g i r)

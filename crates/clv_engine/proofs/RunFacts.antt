@@ -58,7 +58,7 @@ done_comes s l turn budget steps buffers stored b d =
     let kept : length buffers ≡ length s.buffers = ap length d.leaves ∙ turns_count _ _ _ _ _ _ _ _ _ _ d.run in
     record {
       world = d.world;
-      runs = record { start = start_from s; binds = b; run = d.run };
+      runs = record { start = start_from s; binds = b; cells = d.cells; run = d.run };
       leaves = d.leaves;
       count = kept ∙ ap length from.buffers;
       marked = d.marked ∙ marks_same s.checked.body (bounds_from s.bound) 0 s.buffers buffers (sym kept);
@@ -66,9 +66,10 @@ done_comes s l turn budget steps buffers stored b d =
 
 comes_out : (s : Begin) (l : LoadedLaunch) (turn budget : ℕ) (o : Outcome) → BindsTo s.checked.body l (start_from s) → RunsFrom s turn budget o → ComesOut s.checked l turn budget o
 comes_out s l turn budget (outcome.Done steps buffers stored) b r = done_comes s l turn budget steps buffers stored b r
-comes_out s l turn budget (outcome.Trapped t) b r = (r.0, r.1, record { start = start_from s; binds = b; run = r.2 })
-comes_out s l turn budget outcome.Spent b r = (r.0, record { start = start_from s; binds = b; run = r.1 })
+comes_out s l turn budget (outcome.Trapped t) b r = (r.0, r.1, record { start = start_from s; binds = b; cells = r.2; run = r.3 })
+comes_out s l turn budget outcome.Spent b r = (r.0, record { start = start_from s; binds = b; cells = r.1; run = r.2 })
 comes_out s l turn budget (outcome.Misfit number arg) b r = absurd r
+comes_out s l turn budget outcome.TooMuch b r = record { start = start_from s; binds = b; over = r }
 
 pub comes_from : (m : Module) (launch : Launch) (turn : ℕ) (bs : Buffers) (s : Begin) (o : Outcome) → s.checked ≡ m → BindsTo m.body (loaded launch bs) (start_from s) → RunsFrom s turn launch.steps o → ComesFrom m launch turn bs o
 comes_from m launch turn bs s o e b r = subst (λ (k : Module). ComesFrom k launch turn bs o) e (record { is = comes_out s (loaded launch bs) turn launch.steps o (subst (λ (k : Module). BindsTo k.body (loaded launch bs) (start_from s)) (sym e) b) r })

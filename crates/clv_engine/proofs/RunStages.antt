@@ -21,7 +21,7 @@ use Rattle.clv_engine.specs.declared.outcome.Outcome.{Outcome}
 use Rattle.clv_engine.specs.declared.outcome.Outcome.TheVariants as outcome
 use Rattle.clv_engine.specs.FirstForm.{IsOut}
 use Rattle.clv_engine.specs.Command.{IsText, IsUnchanged, IsCompiled, file_text, source_text}
-use Rattle.clv_engine.specs.RunCommand.{launch_line_text, launch_rule_text, trap_text, spent_text, Reads, whole, over, IsFaulty, is_broken, is_long, IsRefused, is_out, is_over, HoldBuffers, IsReady, IsLeastGiven, is_marked, stores_from, IsRun, IsLoaded, RunComesTo, absent, launch_absent, refused, faulty, seeded, buffer_absent, buffer_over, misfit, trapped, spent, ran, unstored}
+use Rattle.clv_engine.specs.RunCommand.{launch_line_text, launch_rule_text, trap_text, spent_text, Reads, whole, over, IsFaulty, is_broken, is_long, IsRefused, is_out, is_over, HoldBuffers, IsReady, IsLeastGiven, is_marked, stores_from, IsRun, IsLoaded, RunComesTo, absent, launch_absent, refused, faulty, seeded, buffer_absent, buffer_over, misfit, too_much, trapped, spent, ran, unstored}
 use Rattle.run_machine.specs.Machines.{trap_by}
 use Rattle.clv_engine.specs.RunSteps.{Since, LoadsAs, LoadAnswers, BuffersLoad, BuffersAnswer, marks, IsComplete, ComesOut, stores_of, StoresComeTo, all_stored, one_failed, AreBuffers, JudgesTo, PlansTo, IsPlanned, GoesTo, BuffersGoTo, IsRunnable, OutcomeOf}
 use Rattle.clv_engine.proofs.TopSteps.{told_later}
@@ -197,6 +197,11 @@ pub misfit_goes : (bytes : List ℕ) (plan : Launch) (turn : ℕ) (bs : Buffers)
 misfit_goes bytes plan turn bs o number argument mid status text h e f g = λ source launch old r p robin held since.
     let x = comes_out bytes plan turn bs o (outcome.Misfit number argument) source launch old r p h e in
     run_at source launch old mid 6 status _ text (misfit r turn (loaded r.plan bs) (record { number = number; argument = argument }) (is_loaded bytes plan turn bs source launch old r p robin held) (r.compiled.good.binding.is_broken (loaded r.plan bs) (record { number = number; argument = argument }) x) since.same) f g
+
+pub too_much_goes : (bytes : List ℕ) (plan : Launch) (turn : ℕ) (bs : Buffers) (o : Outcome) (mid : FilesState) (status : ℕ) (text : List ℕ) → OutcomeOf bytes plan turn bs o → o ≡ outcome.TooMuch → status ≡ 6 → text ≡ launch_rule_text (record { number = 22; argument = None }) → BuffersGoTo bytes plan turn bs mid mid status text
+too_much_goes bytes plan turn bs o mid status text h e f g = λ source launch old r p robin held since.
+    let x = comes_out bytes plan turn bs o outcome.TooMuch source launch old r p h e in
+    run_at source launch old mid 6 status _ text (too_much r turn (loaded r.plan bs) (is_loaded bytes plan turn bs source launch old r p robin held) x since.same) f g
 
 pub done_marks : (bytes : List ℕ) (plan : Launch) (turn : ℕ) (bs : Buffers) (o : Outcome) (steps : ℕ) (left : Buffers) (stored : List Bool) → IsRunnable bytes → AreBuffers plan.files bs → OutcomeOf bytes plan turn bs o → o ≡ outcome.Done steps left stored → length stored ≡ length plan.files
 done_marks bytes plan turn bs o steps left stored run sizes h e =

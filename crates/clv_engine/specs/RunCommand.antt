@@ -20,6 +20,7 @@ use Rattle.spv_module.specs.Interface.{variables_in, pointee_by}
 use Rattle.spv_meaning.specs.declared.trap.TrapKind.{TrapKind}
 use Rattle.spv_meaning.specs.declared.trap.TrapKind.TheVariants.{Range, Divide, Shift, Barrier, Unreachable}
 use Rattle.spv_meaning.specs.Start.{Bound, Start}
+use Rattle.spv_meaning.specs.Cells.{cells_needed, MAX_CELLS}
 use Rattle.spv_meaning.specs.Schedule.{Invocations, Trapped, Ending, IsDone, HasTrapped, IsSpent, ScheduledRun}
 use Rattle.spv_meaning.specs.Worlds.{Buffers}
 use Rattle.spv_meaning.specs.Events.{Asked}
@@ -100,11 +101,18 @@ pub record IsLeastGiven (arguments : List ArgLine) (file n : ℕ) : Type 0 where
 
 -- ---- what is run
 
--- The module, bound to a launch, runs under turns of so many steps and a budget, and ends so, in this world.
+-- The module, bound to a launch that takes no more cells than it may, runs under turns of so many steps and a budget, and ends so, in this world.
 pub record ModuleRuns (m : Module) (l : LoadedLaunch) (turn budget : ℕ) (e : Ending) (w : Invocations) : Type 0 where
   pub start : Start
   pub binds : BindsTo m.body l start
+  pub cells : cells_needed m.body start ≤ MAX_CELLS
   pub run : ScheduledRun m.body start turn budget e w
+
+-- It takes too many cells (L22).
+pub record TakesTooMuch (m : Module) (l : LoadedLaunch) : Type 0 where
+  pub start : Start
+  pub binds : BindsTo m.body l start
+  pub over : MAX_CELLS < cells_needed m.body start
 
 -- Where no run of the source comes to what is undefined, a complete run of it leaves these buffers, in at least a 256th of the steps.
 pub record IsServed (k : Kernel) (l : LoadedLaunch) (function steps : ℕ) (buffers : Buffers) : Type 0 where
@@ -182,6 +190,8 @@ pub data RunComesTo (source launch : List ℕ) (old new : FilesState) : ℕ → 
   buffer_over : (r : IsReady old source launch) (file seen n : ℕ) (name : List ℕ) (bs : List (List ℕ)) → slice_get r.plan.files file ≡ Some name → HoldBuffers old (take file r.plan.files) bs → IsTooLarge old name 16777216 seen → IsLeastGiven r.plan.args file n → IsUnchanged old new → RunComesTo source launch old new 6 (launch_rule_text (record { number = 14; argument = Some n }))
   -- the launch doesn't fit the kernel
   misfit : (r : IsReady old source launch) (turn : ℕ) (l : LoadedLaunch) (b : BrokenRule) → IsLoaded r turn l → IsLeastBroken l (takes_of r.compiled.good.kernel l.kernel) b → IsUnchanged old new → RunComesTo source launch old new 6 (launch_rule_text b)
+  -- L22
+  too_much : (r : IsReady old source launch) (turn : ℕ) (l : LoadedLaunch) → IsLoaded r turn l → TakesTooMuch r.compiled.made l → IsUnchanged old new → RunComesTo source launch old new 6 (launch_rule_text (record { number = 22; argument = None }))
   trapped : (r : IsReady old source launch) (turn : ℕ) (l : LoadedLaunch) (t : Trapped) (steps : ℕ) (w : Invocations) → IsLoaded r turn l → ModuleRuns r.compiled.made l turn r.plan.steps (HasTrapped t steps) w → IsUnchanged old new → RunComesTo source launch old new 7 (trap_text t)
   spent : (r : IsReady old source launch) (turn : ℕ) (l : LoadedLaunch) (w : Invocations) → IsLoaded r turn l → ModuleRuns r.compiled.made l turn r.plan.steps IsSpent w → IsUnchanged old new → RunComesTo source launch old new 8 (spent_text r.plan.steps)
   ran : (r : IsReady old source launch) (turn : ℕ) (l : LoadedLaunch) (steps : ℕ) (stores : List (List ℕ × List ℕ)) → IsLoaded r turn l → IsRun r.compiled.made r.compiled.good.kernel l turn r.plan.steps steps r.plan.files stores → HoldsStores old new stores → RunComesTo source launch old new 0 (done_text steps)

@@ -1,5 +1,5 @@
 -- What the steps of the command `run` come to, each from what those before it found.
-use Rattle.std.specs.Prelude.{◌≡◌, ℕ, ◌+◌, ◌≤◌, Bool, true, false, List, [], ◌∷◌, ◌++◌, length, Option, Some, Result, Ok, Err, slice_get, IsTrue, string_bytes, take}
+use Rattle.std.specs.Prelude.{◌≡◌, ℕ, ◌+◌, ◌<◌, ◌≤◌, Bool, true, false, List, [], ◌∷◌, ◌++◌, length, Option, Some, Result, Ok, Err, slice_get, IsTrue, string_bytes, take}
 use Rattle.clv_io.specs.Files.{FilesState, IsTooLarge}
 use Rattle.launch_text.specs.declared.launch.Launch.{Launch}
 use Rattle.launch_text.specs.declared.launch.Schedule.TheVariants.{Robin}
@@ -11,6 +11,7 @@ use Rattle.spv_types_rules.specs.Rules.{IsValid}
 use Rattle.spv_reflect.specs.declared.rows.Reflection.{Reflection}
 use Rattle.spv_reflect.specs.Reflection.{rows_of}
 use Rattle.spv_meaning.specs.Start.{Bound}
+use Rattle.spv_meaning.specs.Cells.{cells_needed, MAX_CELLS}
 use Rattle.spv_meaning.specs.Schedule.{Invocations, IsDone, HasTrapped, IsSpent, ScheduledRun}
 use Rattle.spv_meaning.specs.Worlds.{Buffers}
 use Rattle.vk_bind.specs.Binding.{takes_in}
@@ -25,7 +26,7 @@ use Rattle.clv_engine.specs.declared.load.Buffers.{Buffers as LoadedBuffers}
 use Rattle.clv_engine.specs.declared.load.Buffers.TheVariants as buffers
 use Rattle.clv_engine.specs.declared.report.Report.{Report}
 use Rattle.clv_engine.specs.Command.{IsCompiled, IsText, IsUnchanged, NotLoaded, file_text}
-use Rattle.clv_engine.specs.RunCommand.{Reads, IsReady, IsLoaded, HoldBuffers, ModuleRuns, IsRun, HoldsStores, HoldsStoresCut, is_marked, done_text, RunComesTo}
+use Rattle.clv_engine.specs.RunCommand.{Reads, IsReady, IsLoaded, HoldBuffers, ModuleRuns, TakesTooMuch, IsRun, HoldsStores, HoldsStoresCut, is_marked, done_text, RunComesTo}
 
 -- No file has changed since, and steady files tell what they hold.
 pub record Since (old mid : FilesState) : Type 0 where
@@ -74,6 +75,7 @@ ComesOut m l turn budget (outcome.Done steps buffers stored) = IsComplete m l tu
 ComesOut m l turn budget (outcome.Trapped t) = (steps : ℕ) × (w : Invocations) × ModuleRuns m l turn budget (HasTrapped (trap_by t) steps) w
 ComesOut m l turn budget outcome.Spent = (w : Invocations) × ModuleRuns m l turn budget IsSpent w
 ComesOut m l turn budget (outcome.Misfit number arg) = IsLeastBroken l (takes_in m.body l.kernel) (record { number = number; argument = arg })
+ComesOut m l turn budget outcome.TooMuch = TakesTooMuch m l
 
 -- ---- stores
 
@@ -154,14 +156,19 @@ pub record ComesFrom (m : Module) (launch : Launch) (turn : ℕ) (bs : Buffers) 
   pub is : ComesOut m (loaded launch bs) turn launch.steps o
 
 -- what comes of running the machine from a start
+abbrev pub IsSmall : Begin → Type 0
+IsSmall s = cells_needed s.checked.body (start_from s) ≤ MAX_CELLS
+
 pub record DoneFrom (s : Begin) (turn budget steps : ℕ) (buffers : Buffers) (stored : List Bool) : Type 0 where
   pub world : Invocations
+  pub cells : IsSmall s
   pub run : ScheduledRun s.checked.body (start_from s) turn budget (IsDone steps) world
   pub leaves : buffers ≡ world.memory
   pub marked : stored ≡ marks s.checked.body (bounds_from s.bound) 0 s.buffers
 
 abbrev pub RunsFrom : Begin → ℕ → ℕ → Outcome → Type 0
 RunsFrom s turn budget (outcome.Done steps buffers stored) = DoneFrom s turn budget steps buffers stored
-RunsFrom s turn budget (outcome.Trapped t) = (steps : ℕ) × (w : Invocations) × ScheduledRun s.checked.body (start_from s) turn budget (HasTrapped (trap_by t) steps) w
-RunsFrom s turn budget outcome.Spent = (w : Invocations) × ScheduledRun s.checked.body (start_from s) turn budget IsSpent w
+RunsFrom s turn budget (outcome.Trapped t) = (steps : ℕ) × (w : Invocations) × IsSmall s × ScheduledRun s.checked.body (start_from s) turn budget (HasTrapped (trap_by t) steps) w
+RunsFrom s turn budget outcome.Spent = (w : Invocations) × IsSmall s × ScheduledRun s.checked.body (start_from s) turn budget IsSpent w
 RunsFrom s turn budget (outcome.Misfit number arg) = ⊥
+RunsFrom s turn budget outcome.TooMuch = MAX_CELLS < cells_needed s.checked.body (start_from s)

@@ -22,4 +22,6 @@ pub enum Outcome {
         number: u8,
         arg: Option<u32>,
     },
+    /// The launch takes too many cells.
+    TooMuch,
 }

@@ -196,6 +196,7 @@ fn run_on<F: Files>(
         Outcome::Trapped(trap) => report_trap(alloc, trap),
         Outcome::Spent => report_spent(alloc, launch.steps),
         Outcome::Misfit { number, arg } => report_launch_rule(alloc, number, arg),
+        Outcome::TooMuch => report_launch_rule(alloc, 22, None),
     }
 }
 

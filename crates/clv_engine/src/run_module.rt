@@ -10,7 +10,7 @@ use crate::marks::marks;
 use crate::outcome::Outcome;
 use clv_place::{List, NoMemory, Text};
 use launch_text::Launch;
-use run_machine::{Ending, Machine};
+use run_machine::{Ending, Machine, NewStop};
 use spv_binary::{ReadStop, read};
 use spv_reflect::{ReflectStop, Reflection, read_reflection};
 use spv_types_rules::Checked;
@@ -95,7 +95,11 @@ fn run_bound(alloc: Global, start: Start, turn: u32, budget: u64) -> Result<Outc
         start.bound.as_slice(),
         start.buffers.as_slice(),
     )?;
-    let mut machine = Machine::new(alloc, start)?;
+    let mut machine = match Machine::new(alloc, start) {
+        Ok(machine) => machine,
+        Err(NewStop::Cells { .. }) => return Ok(Outcome::TooMuch),
+        Err(NewStop::NoMemory) => return Err(NoMemory),
+    };
     match machine.run(turn, budget)? {
         Ending::Done { steps } => Ok(Outcome::Done {
             steps,

@@ -2,7 +2,7 @@
 use Rattle.std.proofs.Common.{length, sym, ap, ◌∙◌, subst}
 use Rattle.launch_text.specs.Readable.{AreDistinct}
 use Rattle.clv_engine.proofs.TopSteps.{if_ok}
-use Rattle.clv_engine.proofs.RunStages.{done_marks, done_buffers, done_goes, trapped_goes, spent_goes, misfit_goes}
+use Rattle.clv_engine.proofs.RunStages.{done_marks, done_buffers, done_goes, trapped_goes, spent_goes, misfit_goes, too_much_goes}
 use Rattle.clv_engine.proofs.run_file.run_on.Goals as goal
 
 pub store_all-requires-clause-distinct : goal.store_all-requires-clause-distinct
@@ -25,3 +25,6 @@ returns-in-Spent-clause-ok g c = if_ok _ _ _ (λ r h. spent_goes _ _ _ _ _ _ _ _
 
 pub returns-in-Misfit-clause-ok : goal.returns-in-Misfit-clause-ok
 returns-in-Misfit-clause-ok g c = if_ok _ _ _ (λ r h. misfit_goes _ _ _ _ _ _ _ _ _ _ c.in_ok-steps.ensures c.in-Misfit.is h.0 h.1) c.report_launch_rule.ensures
+
+pub returns-in-TooMuch-clause-ok : goal.returns-in-TooMuch-clause-ok
+returns-in-TooMuch-clause-ok g c = if_ok _ _ _ (λ r h. too_much_goes _ _ _ _ _ _ _ _ c.in_ok-steps.ensures c.in-TooMuch.is h.0 h.1) c.report_launch_rule-in-TooMuch.ensures
