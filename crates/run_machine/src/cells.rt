@@ -56,7 +56,8 @@ fn scalars_of_all(body: &[Inst], depth: u32, types: &[Operand]) -> u64
     sum
 }
 
-// The scalars of a value of a type, which nests so deep at the most.
+// The scalars of a value of a type, which nests so deep at the most. A valid type has at most 65,536, so a
+// count that goes down each member by itself is short.
 #[cycle(types)]
 #[tactic(auto, using(crate::proofs::Counting::counting))]
 fn scalars_within(body: &[Inst], depth: u32, ty: u32) -> u64

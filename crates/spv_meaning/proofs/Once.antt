@@ -1,12 +1,12 @@
 -- A run by a schedule ends in one way.
-use Rattle.std.proofs.Common.{◌≡◌, ◌≢◌, ℕ, zero, suc, ◌+◌, ◌<◌, List, [], ◌∷◌, ◌++◌, Some, refl, sym, ap, ◌∙◌, subst}
-use Rattle.clv_steps.specs.Machines.{Status, Runs, Asks, Ends, Fails, IsLive}
+use Rattle.std.proofs.Common.{◌≡◌, ℕ, suc, ◌+◌, List, [], ◌∷◌, ◌++◌, Some, refl, sym, ap, ◌∙◌, subst}
+use Rattle.clv_steps.specs.Machines.{Status, Fails, IsLive}
 use Rattle.spv_module.specs.declared.module.Inst.{Inst}
 use Rattle.spv_meaning.specs.declared.trap.TrapKind.{TrapKind}
 use Rattle.spv_meaning.specs.Events.{Asked}
 use Rattle.spv_meaning.specs.Start.{Start}
-use Rattle.spv_meaning.specs.Invocation.{Run, run, over, given_of, trap_of}
-use Rattle.spv_meaning.specs.Schedule.{Invocations, run_of, status_of, after_step, Trapped, TrapsAt, Ending, IsDone, HasTrapped, IsSpent, Turns, complete, spent, turned, traps, ends, goes, ScheduledRun}
+use Rattle.spv_meaning.specs.Invocation.{Run, run, over}
+use Rattle.spv_meaning.specs.Schedule.{Invocations, run_of, status_of, after_step, Trapped, TrapsAt, Ending, HasTrapped, Turns, complete, spent, turned, traps, ends, goes, ScheduledRun}
 
 live_fails : (s : Status Asked) → IsLive s → s ≡ Fails → ⊥
 live_fails s l e = subst IsLive e l

@@ -1,5 +1,5 @@
 -- What a step of one invocation does to the runs of a world.
-use Rattle.std.proofs.Common.{◌≡◌, ◌≢◌, ℕ, zero, suc, ◌+◌, ◌<◌, List, [], ◌∷◌, ◌++◌, refl, sym, ap, ◌∙◌, subst, length, arith}
+use Rattle.std.proofs.Common.{◌≡◌, ◌≢◌, ℕ, ◌<◌, List, [], ◌∷◌, ◌++◌, refl, ap, ◌∙◌}
 use Rattle.launch_text.specs.WorkItems.{volume}
 use Rattle.clv_steps.specs.Machines.{Status, Runs, Asks, Ends, Fails, IsLive, Machine, after}
 use Rattle.clv_steps.proofs.Append.{after_append}
@@ -10,7 +10,7 @@ use Rattle.spv_meaning.specs.Events.{Asked}
 use Rattle.spv_meaning.specs.Start.{Start}
 use Rattle.spv_meaning.specs.Invocation.{Run, Row, Steps, Questions, Traps, status_by, next, invocation, given_of, first_run}
 use Rattle.spv_meaning.specs.Worlds.{shared_over, module_world}
-use Rattle.spv_meaning.specs.Schedule.{Invocations, run_of, status_of, after_status, after_step}
+use Rattle.spv_meaning.specs.Schedule.{Invocations, run_of, status_of, after_status}
 
 -- an invocation that has an instruction has not ended
 pub never_ends : (function : ℕ) (r : Row) → status_by function r ≢ Ends

@@ -1,13 +1,12 @@
 -- What holds of a run by a schedule: it ends in one way, and is a run of the module's world.
-use Rattle.std.proofs.Common.{◌≡◌, ◌≢◌, ◌⊎◌, ℕ, zero, suc, ◌+◌, ◌<◌, ◌≤◌, inl, inr, List, [], ◌∷◌, ◌++◌, Some, refl, sym, ap, ◌∙◌, subst, length, arith}
+use Rattle.std.proofs.Common.{◌≡◌, ◌⊎◌, ℕ, zero, suc, ◌+◌, ◌<◌, ◌≤◌, inl, inr, List, [], ◌∷◌, ◌++◌, refl, sym, ap, ◌∙◌, subst, length, arith}
 use Rattle.std.proofs.lemmas.Bool.{cases_eq}
 use Rattle.std.proofs.lemmas.List.{length-append}
 use Rattle.launch_text.specs.WorkItems.{volume}
-use Rattle.clv_steps.specs.Machines.{Status, Runs, Asks, Ends, Fails, IsLive}
+use Rattle.clv_steps.specs.Machines.{Ends, Fails, IsLive}
 use Rattle.clv_worlds.specs.Worlds.{with_item, Leads, here, onward, IsComplete, opening, steps_of}
 use Rattle.clv_worlds.proofs.Picks.{pick_same, pick_other}
 use Rattle.spv_module.specs.declared.module.Inst.{Inst}
-use Rattle.spv_meaning.specs.declared.trap.TrapKind.{TrapKind}
 use Rattle.spv_meaning.specs.Start.{Start}
 use Rattle.spv_meaning.specs.Invocation.{Run, run, over, status, given_of}
 use Rattle.spv_meaning.specs.Worlds.{shared_over, module_world}

@@ -11,11 +11,11 @@ use Rattle.spv_meaning.specs.Invocation.{place_after}
 
 -- the scalars of a value of a type by its definition, where those of each member are known; a pointer counts two
 abbrev pub scalars_by : (ℕ → ℕ) → Option Said → ℕ
-scalars_by of (Some (IntType r width signedness)) = 1
-scalars_by of (Some (VectorType r component count)) = count
-scalars_by of (Some (StructType r members)) = sum (map of members)
-scalars_by of (Some (PointerType r storage pointee)) = 2
-scalars_by of _ = 0
+scalars_by inner (Some (IntType r width signedness)) = 1
+scalars_by inner (Some (VectorType r component count)) = count
+scalars_by inner (Some (StructType r members)) = sum (map inner members)
+scalars_by inner (Some (PointerType r storage pointee)) = 2
+scalars_by inner _ = 0
 
 -- the same of a type, which nests so deep at the most
 abbrev pub scalars_within : ℕ → List Inst → ℕ → ℕ

@@ -1,5 +1,5 @@
 -- All invocations of a launch over its buffers, in any order.
-use Rattle.std.specs.Prelude.{ℕ, zero, suc, ◌+◌, ◌*◌, ◌/◌, ◌%◌, true, false, List, [], ◌∷◌, ◌++◌, slice_set, Option, None}
+use Rattle.std.specs.Prelude.{ℕ, zero, suc, ◌+◌, ◌*◌, ◌/◌, ◌%◌, true, false, List, [], ◌∷◌, slice_set, Option, None}
 use Rattle.launch_text.specs.WorkItems.{Sizes, volume, place_in}
 use Rattle.spv_module.specs.declared.module.Inst.{Inst}
 use Rattle.clv_worlds.specs.Worlds.{Shared, Program}
