@@ -1,3 +1,12 @@
 pub mod Faults
 pub mod Steps
 pub mod Sizes
+pub mod Lines
+pub mod Puts
+pub mod Counts
+pub mod Below
+pub mod ReadBack
+pub mod Defined
+pub mod Parts
+pub mod Whole
+pub mod Sections

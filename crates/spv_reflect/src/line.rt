@@ -65,7 +65,8 @@ pub mod number {
     pub const SPEC_CONSTANT_WORKGROUP_SIZE: u32 = 12;
 }
 
-fn is_word_type(body: &[Inst], id: u32) -> bool
+/// Whether the id is that of a type of 32-bit numbers.
+pub fn is_word_type(body: &[Inst], id: u32) -> bool
     ensures { result ≡ spec.is_word_type (definition_in body.now id) }
 {
     match definition(body, id) {
@@ -102,7 +103,8 @@ fn function_at(body: &[Inst], id: u32) -> Option<u32>
     }
 }
 
-fn is_reflection(body: &[Inst], id: u32) -> bool
+/// Whether the id is that of the import of NonSemantic.ClspvReflection.1.
+pub fn is_reflection(body: &[Inst], id: u32) -> bool
     ensures { result ≡ spec.is_reflection (definition_in body.now id) }
 {
     match definition(body, id) {

@@ -1,12 +1,14 @@
 //! Modules, and what they read as.
 
-ghost use Rattle.std.specs.Prelude.{◌≡◌, ◌+◌, ◌<◌, ◌^◌, length, true, IfSome};
+ghost use Rattle.std.specs.Prelude.{◌≡◌, ◌+◌, ◌<◌, ◌^◌, length, true, IfOk, IfSome};
 ghost use Rattle.std.specs.List.{flat_map};
+ghost use Rattle.spv_reflect.specs.Writing.{rows_among};
 ghost use Rattle.spv_module.specs.Words.{body_words, module_words, operand_words};
 
 use crate::reading::read_rows;
-use crate::rows::{ArgKindRow, Reflection};
+use crate::rows::{ArgKindRow, ArgRow, KernelRow, Reflection};
 use crate::stop::ReflectStop;
+use crate::writing::build;
 use clv_place::{List, NoMemory, Text};
 use spv_module::module::VERSION;
 use spv_module::{Inst, Module, Operand, op};
@@ -357,6 +359,70 @@ fn refuses_lines(rt: HostRuntime) -> Result<(), Fail> {
             Some(ReflectStop::Fault { number, word }),
             "{number} at {word}"
         );
+    }
+    Ok(())
+}
+
+// ---- writing
+
+fn arg(alloc: Global, name: &[u8], set: u32, binding: u32) -> Result<ArgRow, NoMemory> {
+    let name = Text::from_bytes(alloc, name)?;
+    let kind = ArgKindRow::Buffer { set, binding };
+    Ok(ArgRow { name, kind })
+}
+
+// A kernel with two arguments, one without, and sizes.
+fn written_rows(alloc: Global) -> Result<Reflection, NoMemory>
+    ensures { IfOk result (λ r. rows_among r ≡ 5) }
+{
+    let args = vec![in alloc; arg(alloc, b"in", 0, 1)?, arg(alloc, b"out", 2, 0)?]?;
+    let first = KernelRow {
+        function: 16,
+        name: Text::from_bytes(alloc, b"copy")?,
+        args: List::from_vec(args),
+        required: None,
+    };
+    let second = KernelRow {
+        function: 11,
+        name: Text::from_bytes(alloc, b"k")?,
+        args: List::new(alloc),
+        required: None,
+    };
+    Ok(Reflection {
+        kernels: List::from_vec(vec![in alloc; first, second]?),
+        sizes: Some([7, 8, 9]),
+        dim: None,
+        constants: None,
+    })
+}
+
+// The opcodes of what is written behind a module of the base: four strings behind its three, nine numbers
+// behind its last constant, and seven lines at the end. The void type and the type of numbers are there.
+#[test]
+fn writes_rows(rt: HostRuntime) -> Result<(), Fail> {
+    let alloc = rt.alloc();
+    let module = module_of(alloc, &[])?;
+    let rows = written_rows(alloc)?;
+    let (body, bound) = build(alloc, module.body.as_slice(), 64, &rows)?;
+    assert_eq!(rt; bound, 84);
+    assert_eq!(rt; body.len(), 38);
+    let codes = [
+        (1, op::EXT_INST_IMPORT),
+        (2, op::STRING),
+        (5, op::STRING),
+        (8, op::STRING),
+        (9, op::TYPE_VOID),
+        (17, op::SPEC_CONSTANT),
+        (18, op::CONSTANT),
+        (26, op::CONSTANT),
+        (27, op::FUNCTION),
+        (30, op::FUNCTION_END),
+        (31, op::EXT_INST),
+        (37, op::EXT_INST),
+    ];
+    for (at, code) in codes {
+        let inst = body.get(at).ok_or("too few")?;
+        assert_eq!(rt; inst.op, code, "at {at}");
     }
     Ok(())
 }
