@@ -1,0 +1,3 @@
+pub mod Views
+pub mod Shapes
+pub mod Sample
