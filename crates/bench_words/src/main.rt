@@ -2,9 +2,10 @@
 //! prints how much there was. `bench/words.sh` times it.
 #![tactic(auto)]
 
-ghost use Rattle.std.specs.Prelude.{◌≡◌, false, IfOk, IfErr};
+ghost use Rattle.std.specs.Prelude.{◌≡◌, false, codes, length, IfOk, IfErr};
 ghost use Rattle.spv_binary.specs.Faults.{is_high_first};
 ghost use Rattle.spv_binary.specs.Reading.{IsFaultOf};
+ghost use Rattle.bench_words.specs.Counts.{IsWrittenAs, IsReadAs, IsRewrittenAs};
 
 use clv_io::{Files, HostFiles};
 use clv_place::Text;
@@ -16,7 +17,9 @@ use std::{env, io};
 
 /// The bytes of the module that is read.
 fn copy(alloc: Global, bytes: &[u8]) -> Result<Text, ReadStop>
-    // Where the lowest byte of each word stands first, they come back as they were.
+    // They are those of the module that was read, the lowest byte of each word first.
+    ensures written { IfOk result (IsWrittenAs bytes.now) }
+    // Where the lowest byte of each word stood first, they come back as they were.
     ensures again { IfOk result (λ again. is_high_first bytes.now ≡ false → again ≡ bytes.now) }
     // Nothing else stops it than what stops reading.
     ensures first { IfErr result (IsFaultOf bytes.now) }
@@ -28,7 +31,12 @@ fn copy(alloc: Global, bytes: &[u8]) -> Result<Text, ReadStop>
 
 /// How many bytes are loaded, instructions read, or bytes written.
 fn count(alloc: Global, step: &str, bytes: &[u8]) -> Result<usize, ReadStop>
-    ensures { IfErr result (IsFaultOf bytes.now) }
+    // A load stops at nothing.
+    ensures load { step.now ≡ codes "load" → result ≡ Ok (length bytes.now) }
+    ensures read { step.now ≡ codes "read" → IfOk result (IsReadAs bytes.now) }
+    ensures write { step.now ≡ codes "write" → IfOk result (IsRewrittenAs bytes.now) }
+    // Nothing else stops it than what stops reading.
+    ensures first { IfErr result (IsFaultOf bytes.now) }
 {
     match step {
         "load" => Ok(bytes.len()),
