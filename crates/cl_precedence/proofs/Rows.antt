@@ -2,14 +2,9 @@
 use Rattle.std.proofs.Common.{◌≡◌, ℕ, ◌+◌, List, [], ◌∷◌, ◌++◌, length, refl, sym, ap, ◌∙◌, subst, append_assoc, arith}
 use Rattle.std.specs.Prelude.{Result, Ok, Err, IfOk, OnOk}
 use Rattle.std.proofs.lemmas.List.{append-nil}
-use Rattle.cl_precedence.specs.Grouping.{viewed, Groups}
-use Rattle.cl_precedence.specs.Waiting.{waits, IsLoose, Held, Keeps}
-use Rattle.cl_precedence.proofs.Last.{waits_last}
+use Rattle.cl_precedence.specs.Grouping.{Groups}
+use Rattle.cl_precedence.specs.Waiting.{IsLoose, Held, Keeps}
 use Rattle.cl_precedence.proofs.Standing.{held_more, held_last}
-
-pub viewed_last : {Op Tree Node : Type 0} (view : Tree → Node) (xs : List (Op × Tree)) (x : Op × Tree) → viewed view (xs ++ x ∷ []) ≡ viewed view xs ++ (x.0, view x.1) ∷ []
-viewed_last view [] x = refl
-viewed_last view (a ∷ xs) x = ap (λ z. (a.0, view a.1) ∷ z) (viewed_last view xs x)
 
 -- The row was read so far, and this is left of it.
 pub record IsRead {A : Type 0} (whole read left : List A) (count : ℕ) : Type 0 where
@@ -29,19 +24,16 @@ empty (x ∷ xs) e = absurd (omega arith)
 pub read_all : {A : Type 0} (whole read left : List A) (count : ℕ) → IsRead whole read left count → count ≡ 0 → whole ≡ read
 read_all whole read left count r e = r.split ∙ ap (λ z. read ++ z) (empty left (sym e ∙ r.counted)) ∙ append-nil read
 
-pub next_held : {Op Tree Node : Type 0} (level : Op → ℕ) (join : Op → Node → Node → Node) (view : Tree → Node) (first : Node) (read : List (Op × Tree)) (old waiting all : List (Tree × Op)) (right here : Node) (tree : Tree) (x : Op × Tree) (l m : ℕ)
-    → l ≡ level x.0 → Held level join first (viewed view read) (waits view old) right l → Keeps level join (waits view old) right (waits view waiting) (view tree) l → IsLoose level (waits view waiting) l
-    → all ≡ waiting ++ (tree, x.0) ∷ [] → Held level join first (viewed view (read ++ x ∷ [])) (waits view all) (view x.1) m
-next_held level join view first read old waiting all right here tree x l m e held keeps loose is =
-    let h = keeps.keeps first (viewed view read) held in
-    let g : Held level join first (viewed view read ++ (x.0, view x.1) ∷ []) (waits view waiting ++ (view tree, x.0) ∷ []) (view x.1) m =
-    held_more level join first (viewed view read) (waits view waiting) (view tree) x.0 (view x.1) m (subst (Held level join first (viewed view read) (waits view waiting) (view tree)) e h) (subst (IsLoose level (waits view waiting)) e loose) in
-    subst (λ z. Held level join first z (waits view all) (view x.1) m) (sym (viewed_last view read x))
-    (subst (λ z. Held level join first (viewed view read ++ (x.0, view x.1) ∷ []) z (view x.1) m) (sym (ap (waits view) is ∙ waits_last view waiting (tree, x.0))) g)
+pub next_held : {Op Node : Type 0} (level : Op → ℕ) (Joins : Op → Node → Node → Node → Type 0) (first : Node) (read : List (Op × Node)) (old waiting all : List (Node × Op)) (right tree : Node) (x : Op × Node) (l m : ℕ)
+    → l ≡ level x.0 → Held level Joins first read old right l → Keeps level Joins old right waiting tree l → IsLoose level waiting l → all ≡ waiting ++ (tree, x.0) ∷ []
+    → Held level Joins first (read ++ x ∷ []) all x.1 m
+next_held level Joins first read old waiting all right tree x l m e held keeps loose is =
+    subst (λ z. Held level Joins first (read ++ x ∷ []) z x.1 m) (sym is)
+    (held_more level Joins first read waiting tree x.0 x.1 m (subst (Held level Joins first read waiting tree) e (keeps.keeps first read held)) (subst (IsLoose level waiting) e loose))
 
-pub last_held : {Op Tree Node E : Type 0} (level : Op → ℕ) (join : Op → Node → Node → Node) (view : Tree → Node) (first : Node) (whole read : List (Op × Tree)) (old waiting : List (Node × Op)) (right : Node) (r : Result Tree E)
-    → Held level join first (viewed view read) old right 0 → whole ≡ read → IfOk r (λ tree. Keeps level join old right waiting (view tree) 0) → OnOk r (IsLoose level waiting 0)
-    → IfOk r (λ tree. Groups level join first (viewed view whole) (view tree))
-last_held level join view first whole read old waiting right (Ok tree) held e keeps loose =
-    subst (λ z. Groups level join first (viewed view z) (view tree)) (sym e) (held_last level join first (viewed view read) waiting (view tree) (keeps.keeps first (viewed view read) held) loose)
-last_held level join view first whole read old waiting right (Err x) held e keeps loose = tt
+pub last_held : {Op Node E : Type 0} (level : Op → ℕ) (Joins : Op → Node → Node → Node → Type 0) (first : Node) (whole read : List (Op × Node)) (old waiting : List (Node × Op)) (right : Node) (r : Result Node E)
+    → Held level Joins first read old right 0 → whole ≡ read → IfOk r (λ tree. Keeps level Joins old right waiting tree 0) → OnOk r (IsLoose level waiting 0)
+    → IfOk r (λ tree. Groups level Joins first whole tree)
+last_held level Joins first whole read old waiting right (Ok tree) held e keeps loose =
+    subst (λ z. Groups level Joins first z tree) (sym e) (held_last level Joins first read waiting tree (keeps.keeps first read held) loose)
+last_held level Joins first whole read old waiting right (Err x) held e keeps loose = tt

@@ -1,8 +1,8 @@
 //! Rows of operands with binary operators between them.
 
 ghost use Rattle.std.specs.Prelude.{◌≡◌, ℕ, IfOk, OnOk, MatchOption};
-ghost use Rattle.cl_precedence.specs.Grouping.{Groups, HasOneGrouping, viewed};
-ghost use Rattle.cl_precedence.specs.Waiting.{waits, IsLoose, Keeps, LeavesLoose, TakesLast};
+ghost use Rattle.cl_precedence.specs.Grouping.{Groups, GroupsOnce};
+ghost use Rattle.cl_precedence.specs.Waiting.{IsLoose, Keeps, LeavesLoose, TakesLast};
 
 use clv_place::NoMemory;
 use std::alloc::Global;
@@ -12,16 +12,11 @@ pub trait Operand: Drop + Sized {
     /// A binary operator, with all that its tree needs of it.
     type Operator: Copy + Drop;
 
-    /// What contracts see of a tree.
-    ghost Node: { Type 0 };
-
-    ghost node: { Self → Node };
-
     /// The level at which an operator binds: a greater one binds tighter.
     ghost level: { Self.Operator → ℕ };
 
-    /// The tree of an operator over its left and its right operand.
-    ghost joined: { Self.Operator → Node → Node → Node };
+    /// That a tree is the one of an operator over its left and its right operand.
+    ghost Joins: { Self.Operator → Self → Self → Self → Type 0 };
 
     /// The level at which an operator binds: a greater one binds tighter.
     fn level(operator: Self::Operator) -> u8
@@ -34,7 +29,7 @@ pub trait Operand: Drop + Sized {
         left: Self,
         right: Self,
     ) -> Result<Self, NoMemory>
-        ensures { IfOk result (λ tree. node tree ≡ joined operator (node left) (node right)) };
+        ensures { IfOk result (λ tree. Joins operator left right tree) };
 }
 
 /// The tree of a row: its first operand, and the operators behind it, each with its right operand,
@@ -45,7 +40,7 @@ pub fn grouped<N: Operand>(
     first: N,
     rest: Vec<(N::Operator, N)>,
 ) -> Result<N, NoMemory>
-    ensures { IfOk result (λ tree. Groups N.level N.joined (N.node first) (viewed N.node rest.items) (N.node tree)) }
+    ensures { IfOk result (λ tree. Groups N.level N.Joins first rest.items tree) }
 {
     let mut waiting = Vec::new(alloc);
     let mut here = first;
@@ -65,8 +60,8 @@ fn closed<N: Operand>(
     right: N,
     level: u8,
 ) -> Result<N, NoMemory>
-    ensures held { IfOk result (λ tree. Keeps N.level N.joined (waits N.node waiting.old.items) (N.node right) (waits N.node waiting.new.items) (N.node tree) level) }
-    ensures loose { OnOk result (IsLoose N.level (waits N.node waiting.new.items) level) }
+    ensures held { IfOk result (λ tree. Keeps N.level N.Joins waiting.old.items right waiting.new.items tree level) }
+    ensures loose { OnOk result (IsLoose N.level waiting.new.items level) }
 {
     let mut here = right;
     while let Some((left, operator)) = last_at_least(waiting, level) {
@@ -81,7 +76,7 @@ fn last_at_least<N: Operand>(
     waiting: &mut Vec<(N, N::Operator)>,
     level: u8,
 ) -> Option<(N, N::Operator)>
-    ensures { MatchOption result (LeavesLoose N.level (waits N.node waiting.old.items) (waits N.node waiting.new.items) level) (λ last. TakesLast N.level (waits N.node waiting.old.items) (waits N.node waiting.new.items) (N.node last.0) last.1 level) }
+    ensures { MatchOption result (LeavesLoose N.level waiting.old.items waiting.new.items level) (λ last. TakesLast N.level waiting.old.items waiting.new.items last.0 last.1 level) }
 {
     match waiting.last() {
         Some(last) if N::level(last.1) >= level => waiting.pop(),
@@ -89,8 +84,9 @@ fn last_at_least<N: Operand>(
     }
 }
 
-/// A law: each row has exactly one grouping, which is what `grouped` answers.
+/// A law: each row has exactly one grouping, where operands that an operator joins have exactly one
+/// tree.
 #[tactic(auto, using(crate::proofs::Unique::one_grouping))]
 pub fn one_grouping<N: Operand>()
-    ensures { HasOneGrouping N.level N.joined }
+    ensures { GroupsOnce N.level N.Joins }
 {}

@@ -1,7 +1,5 @@
 //! Rows of digits, whose trees are written behind one another: operands first, then their operator.
 
-ghost use Rattle.std.specs.Prelude.{ℕ, List, ◌++◌, ◌∷◌, []};
-
 use crate::{Operand, grouped, one_grouping};
 use clv_place::{NoMemory, Text};
 use std::alloc::Global;
@@ -13,17 +11,13 @@ struct Written {
 }
 
 impl Operand for Written {
-    ghost use Rattle.std.specs.Prelude.{ℕ, List, ◌++◌, ◌∷◌, [], if◌then◌else◌, ◌==◌, ◌||◌};
+    ghost use Rattle.std.specs.Prelude.{◌≡◌, ◌++◌, ◌∷◌, [], if◌then◌else◌, ◌==◌, ◌||◌};
 
     type Operator = u8;
 
-    ghost Node = { List ℕ };
-
-    ghost node = { λ tree. tree.text };
-
     ghost level = { λ operator. if operator == 42 then 3 else if (operator == 43) || (operator == 45) then 2 else 0 };
 
-    ghost joined = { λ operator left right. (left ++ right) ++ operator ∷ [] };
+    ghost Joins = { λ operator left right tree. tree.text ≡ (left.text ++ right.text) ++ operator ∷ [] };
 
     fn level(operator: u8) -> u8 {
         match operator {
