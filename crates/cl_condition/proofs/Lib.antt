@@ -1,0 +1,4 @@
+pub mod Judgements
+pub mod Reading
+pub mod Terms
+pub mod Unambiguous

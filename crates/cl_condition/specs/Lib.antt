@@ -1,0 +1,4 @@
+pub mod Conditions
+pub mod Operators
+pub mod Readings
+pub mod Values

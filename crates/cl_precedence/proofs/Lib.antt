@@ -1,0 +1,4 @@
+pub mod Last
+pub mod Rows
+pub mod Standing
+pub mod Unique
