@@ -64,8 +64,8 @@ mutual
 
   -- A call with these arguments leaves these tokens to be read on, or has this first offence.
   pub data Replaces (entries : List Entry) : Call → List (List Item) → Verdict → Type 0 where
-    inside : (c : Call) (args : List (List Item)) (e : Offence) → EachExpands entries args (Err e) → Replaces entries c args (Err e)
-    whole : (c : Call) (args xs : List (List Item)) (v : Verdict) → EachExpands entries args (Ok xs) → v ≡ before c.beyond (call_becomes entries c xs) → Replaces entries c args v
+    within : (c : Call) (args : List (List Item)) (e : Offence) → EachExpands entries args (Err e) → Replaces entries c args (Err e)
+    put_in : (c : Call) (args xs : List (List Item)) (v : Verdict) → EachExpands entries args (Ok xs) → v ≡ before c.beyond (call_becomes entries c xs) → Replaces entries c args v
 
 -- Each list of tokens has one verdict, and each call.
 abbrev pub OneVerdict : Type 0

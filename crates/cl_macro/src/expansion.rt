@@ -75,7 +75,7 @@ fn filled_call(
         beyond,
     } = call;
     let body = filled_body(alloc, table, at, args)?;
-    let items = replacement(alloc, place, &hidden, body)?;
+    let items = replacement(alloc, place, &hidden, body.as_slice())?;
     let mut input = beyond;
     input.put(items)?;
     Ok(input)
@@ -240,7 +240,8 @@ pub fn expand_each(
     let mut left = Stack::of(alloc, args)?;
     let mut done = Row::new(alloc);
     while let Some(arg) = left.pop() {
-        done.push(expand(alloc, table, Room::Endless, Stack::of(alloc, arg)?)?)?;
+        let input = Stack::of(alloc, arg)?;
+        done.push(expand(alloc, table, Room::Endless, input)?)?;
     }
     Ok(done)
 }

@@ -187,7 +187,7 @@ fn becomes(
 {
     let hidden = t.hidden.with(alloc, name)?;
     let body = substitute(alloc, &[], &[], m.body.as_slice())?;
-    match replacement(alloc, t.token.place, &hidden, body) {
+    match replacement(alloc, t.token.place, &hidden, body.as_slice()) {
         Ok(items) => {
             let mut rest = rest;
             rest.put(items)?;

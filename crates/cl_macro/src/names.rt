@@ -141,12 +141,15 @@ impl Names {
         Names::of(alloc, both)
     }
 
-    /// These names and, behind them, those others that are not among them. It shares where it can.
+    /// These names and, behind them, those others that are not among them. Where these are none, the others
+    /// are shared.
+    #[tactic(auto, using(crate::proofs::Joining::joinings))]
     pub fn joined(&self, alloc: Global, others: &Names) -> Result<Self, NoMemory>
         ensures { IfOk result (λ n. n ≡ joined self.now others.now) }
     {
         if self.len() == 0 {
-            return others.share();
+            let shared = others.share()?;
+            return Ok(shared);
         }
         let mut all = copies(alloc, self.as_slice())?;
         for name in others.as_slice() {

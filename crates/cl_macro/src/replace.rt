@@ -120,12 +120,12 @@ pub fn replacement(
     alloc: Global,
     place: Place,
     hidden: &Names,
-    items: Row<Item>,
+    items: &[Item],
 ) -> Result<Row<Item>, Stop>
-    ensures { Answers result (λ v. v ≡ replacement place hidden.now [] items) }
+    ensures { Answers result (λ v. v ≡ replacement place hidden.now [] items.now) }
 {
     let mut all = Row::new(alloc);
-    for item in items.as_slice() {
+    for item in items {
         let names = item.hidden.joined(alloc, hidden)?;
         if names.len() > MAX_HIDDEN {
             return Err(Stop::Out(Offence { code: 123, place }));

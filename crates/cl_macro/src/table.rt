@@ -30,6 +30,7 @@ impl Model for Table {
 
 impl Table {
     /// The table in which no name is defined. It takes no memory, and keeps the allocator for what is added.
+    #[tactic(auto, using(crate::proofs::Indexing::indexings))]
     pub fn new(alloc: Global) -> Self
         ensures { result ≡ [] }
     {
