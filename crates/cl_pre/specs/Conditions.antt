@@ -1,6 +1,6 @@
 -- The conditions of `#if` and `#elif` (C99 6.10.1).
-use Rattle.std.specs.Prelude.{◌≡◌, ℕ, suc, ◌==◌, ◌||◌, ◌&&◌, Bool, true, false, not, is_some, if◌then◌else◌, List, [], ◌∷◌, ◌++◌, map, Option, Some, None, Result, Ok, Err, w64}
-use Rattle.std.specs.Int.{cast_unsigned}
+use Rattle.std.specs.Prelude.{◌≡◌, ℕ, ◌-◌, ◌==◌, nat_lt, ◌||◌, ◌&&◌, Bool, true, false, not, is_some, if◌then◌else◌, List, [], ◌∷◌, ◌++◌, map, Option, Some, None, Result, Ok, Err}
+use Rattle.std.specs.Int.{w64, cast_unsigned}
 use Rattle.clv_place.specs.declared.place.Place.{Place}
 use Rattle.clv_place.specs.declared.stop.Offence.{Offence}
 use Rattle.cl_condition.specs.Conditions.{Judges}
@@ -52,13 +52,20 @@ answer_of entries ts = if extent_of ts == 0 then kind.Rest [] else kind.Number (
 abbrev pub with_kind : TokenKind → Token → Token
 with_kind k t = record { kind = k; place = t.place; first = t.first; spaced = t.spaced }
 
--- The tokens of a condition behind others, in which `defined` is read before macros are replaced; so many tokens are the operand of one before.
+-- a token of a condition, before these
+abbrev pub condition_item : List Entry → Token → List Token → Item
+condition_item entries t ts = if asks_defined t then fresh (with_kind (answer_of entries ts) t) else fresh t
+
+-- how many tokens behind it go with it
+abbrev pub goes_with : Token → List Token → ℕ
+goes_with t ts = if asks_defined t then extent_of ts else 0
+
+-- The tokens of a condition behind others, in which `defined` is read before macros are replaced; so many tokens go with one before.
 abbrev pub condition_from : List Entry → List Item → ℕ → List Token → List Item
 condition_from entries front n [] = front
-condition_from entries front (suc n) (t ∷ ts) = condition_from entries front n ts
-condition_from entries front zero (t ∷ ts) =
-    if asks_defined t then condition_from entries (front ++ fresh (with_kind (answer_of entries ts) t) ∷ []) (extent_of ts) ts
-    else condition_from entries (front ++ fresh t ∷ []) 0 ts
+condition_from entries front n (t ∷ ts) =
+    if nat_lt 0 n then condition_from entries front (n - 1) ts
+    else condition_from entries (front ++ condition_item entries t ts ∷ []) (goes_with t ts) ts
 
 -- uint and ulong are unsigned
 abbrev pub is_unsigned : ℕ → Bool

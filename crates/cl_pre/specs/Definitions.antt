@@ -1,5 +1,6 @@
 -- What a `#define` defines (C99 6.10.3).
-use Rattle.std.specs.Prelude.{ℕ, ◌+◌, ◌&&◌, ◌==◌, Bool, true, false, not, if◌then◌else◌, List, [], ◌∷◌, ◌++◌, drop, Option, Some, None, Result, Ok, Err, bytes_eq, int_eq}
+use Rattle.std.specs.Prelude.{ℕ, ◌+◌, ◌&&◌, ◌==◌, Bool, true, false, not, if◌then◌else◌, List, [], ◌∷◌, ◌++◌, drop, Option, Some, None, Result, Ok, Err, bytes_eq}
+use Rattle.std.specs.Ordering.{int_eq}
 use Rattle.cl_lexer.specs.declared.token.Token.{Token}
 use Rattle.cl_lexer.specs.declared.token.TokenKind.{TokenKind}
 use Rattle.cl_lexer.specs.declared.token.TokenKind.TheVariants as kind

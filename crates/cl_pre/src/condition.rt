@@ -2,7 +2,7 @@
 
 ghost use Rattle.std.specs.Prelude.{◌≡◌, IfOk, List, [], map};
 ghost use Rattle.cl_macro.specs.Answers.{Answers};
-ghost use Rattle.cl_pre.specs.Conditions.{Holds, asks_defined, is_bracketed, extent_of, asked_of, answer_of, condition_from, term_of_kind, term_of, held};
+ghost use Rattle.cl_pre.specs.Conditions.{Holds, asks_defined, is_bracketed, extent_of, asked_of, answer_of, condition_item, goes_with, condition_from, term_of_kind, term_of, held};
 ghost use Rattle.cl_pre.specs.Definitions.{is_name, name_of};
 
 use crate::definition::rest_of;
@@ -106,6 +106,42 @@ fn answer_of(alloc: Global, table: &Table, tokens: &[Token]) -> TokenKind
     }
 }
 
+// A token of a condition, before these.
+fn condition_item(
+    alloc: Global,
+    table: &Table,
+    token: &Token,
+    behind: &[Token],
+) -> Result<Item, NoMemory>
+    ensures { IfOk result (λ i. i ≡ condition_item table.now token.now behind.now) }
+{
+    if !asks_defined(token) {
+        return Ok(fresh(alloc, token)?);
+    }
+    let kind = answer_of(alloc, table, behind);
+    Ok(Item {
+        token: Token {
+            kind,
+            place: token.place,
+            first: token.first,
+            spaced: token.spaced,
+        },
+        hidden: Names::none(),
+        raw: false,
+    })
+}
+
+// How many tokens behind it go with it.
+fn goes_with(token: &Token, behind: &[Token]) -> usize
+    ensures { result ≡ goes_with token.now behind.now }
+{
+    if asks_defined(token) {
+        extent_of(behind)
+    } else {
+        0
+    }
+}
+
 /// The tokens of a condition, in which `defined` is read before macros are replaced (C99 6.10.1): 1 where
 /// its operand names a macro, else 0, and without an operand what stands in no condition. It also fails
 /// for want of memory.
@@ -118,25 +154,15 @@ pub fn condition_of(
 {
     let mut items = Row::new(alloc);
     let mut skips: usize = 0;
-    for at in 0..tokens.len() {
-        let token = &tokens[at];
+    let mut at = 0;
+    for token in tokens {
+        at += 1;
         if skips > 0 {
             skips -= 1;
-        } else if asks_defined(token) {
-            let behind = rest_of(tokens, at + 1);
-            items.push(Item {
-                token: Token {
-                    kind: answer_of(alloc, table, behind),
-                    place: token.place,
-                    first: token.first,
-                    spaced: token.spaced,
-                },
-                hidden: Names::none(),
-                raw: false,
-            })?;
-            skips = extent_of(behind);
         } else {
-            items.push(fresh(alloc, token)?)?;
+            let behind = rest_of(tokens, at);
+            items.push(condition_item(alloc, table, token, behind)?)?;
+            skips = goes_with(token, behind);
         }
     }
     Ok(items)

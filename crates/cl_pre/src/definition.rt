@@ -48,7 +48,9 @@ fn same_kind(a: &TokenKind, b: &TokenKind) -> bool
     }
 }
 
-fn same_kinds(a: &[Token], b: &[Token]) -> bool
+/// Whether tokens are the same one by one: numbers are where their values and types are.
+#[tactic(auto, using(crate::proofs::Sameness::samenesses))]
+pub fn same_kinds(a: &[Token], b: &[Token]) -> bool
     ensures { result ≡ same_kinds a.now b.now }
 {
     if a.len() != b.len() {
@@ -62,6 +64,7 @@ fn same_kinds(a: &[Token], b: &[Token]) -> bool
     true
 }
 
+#[tactic(auto, using(crate::proofs::Sameness::samenesses))]
 fn same_names(a: &[Text], b: &[Text]) -> bool
     ensures { result ≡ same_names a.now b.now }
 {
@@ -110,8 +113,10 @@ fn has_hash(tokens: &[Token]) -> bool
 fn repeats(names: &[Text]) -> bool
     ensures { result ≡ repeats names.now }
 {
-    for at in 0..names.len() {
-        if has(names[at].as_slice(), rest_of(names, at + 1)) {
+    let mut at = 0;
+    for name in names {
+        at += 1;
+        if has(name.as_slice(), rest_of(names, at)) {
             return true;
         }
     }
@@ -144,8 +149,10 @@ fn params_from(alloc: Global, tokens: &[Token]) -> Result<Option<Parameters>, No
 {
     let mut names = List::new(alloc);
     let mut wants_name = true;
-    for at in 0..tokens.len() {
-        let kind = &tokens[at].kind;
+    let mut length = 0;
+    for token in tokens {
+        length += 1;
+        let kind = &token.kind;
         if wants_name {
             match name_of(kind) {
                 Some(name) => names.push(Text::from_bytes(alloc, name)?)?,
@@ -153,10 +160,7 @@ fn params_from(alloc: Global, tokens: &[Token]) -> Result<Option<Parameters>, No
             }
             wants_name = false;
         } else if is_mark(CLOSE, kind) {
-            return Ok(Some(Parameters {
-                names,
-                length: at + 1,
-            }));
+            return Ok(Some(Parameters { names, length }));
         } else if is_mark(COMMA, kind) {
             wants_name = true;
         } else {

@@ -3,7 +3,8 @@
 ghost use Rattle.std.specs.Prelude.{◌≡◌, ◌++◌, IfOk, List, [], map, None};
 ghost use Rattle.cl_macro.specs.Answers.{Answers};
 ghost use Rattle.cl_macro.specs.Items.{of_text};
-ghost use Rattle.cl_pre.specs.Expansion.{Expansion, OneVerdict, Step, Preprocesses, is_before, settled, beginning, most};
+ghost use Rattle.cl_pre.specs.Expansion.{Expansion, OneVerdict, Step, Preprocesses, is_before, earlier_of, beginning, most};
+ghost use Rattle.cl_pre.specs.Settled.{stop_of};
 ghost use Rattle.cl_pre.specs.Unended.{unended_from};
 
 use crate::condition::holds;
@@ -124,6 +125,23 @@ fn is_before(d: Offence, e: Offence) -> bool
     }
 }
 
+// The first of two offences.
+fn earlier_of(d: Offence, e: Offence) -> Offence
+    ensures { result ≡ earlier_of d e }
+{
+    if is_before(d, e) { d } else { e }
+}
+
+// Why there is no answer where an `#if` is not ended, and preprocessing stops otherwise.
+fn stop_of(missing: Offence, stop: Stop) -> Stop
+    ensures { result ≡ stop_of missing stop }
+{
+    match stop {
+        Stop::Out(e) => Stop::Out(earlier_of(missing, e)),
+        Stop::NoMemory => Stop::NoMemory,
+    }
+}
+
 // The answer for the whole, by the `#if` that is not ended and what else is found.
 #[tactic(auto, using(crate::proofs::Settling::settling))]
 fn settle(
@@ -135,18 +153,19 @@ fn settle(
     requires unended { unended ≡ unended_from None 0 tokens.now.list }
     ensures { Answers result (Expansion tokens.now) }
 {
-    let Some(place) = unended else {
-        let list = found?;
-        return Ok(Tokens {
-            list,
-            end: tokens.end,
-        });
-    };
-    let missing = Offence { code: 117, place };
-    match found {
-        Ok(_) => Err(Stop::Out(missing)),
-        Err(Stop::Out(e)) => Err(Stop::Out(if is_before(missing, e) { missing } else { e })),
-        Err(Stop::NoMemory) => Err(Stop::NoMemory),
+    let end = tokens.end;
+    match unended {
+        None => match found {
+            Ok(list) => Ok(Tokens { list, end }),
+            Err(stop) => Err(stop),
+        },
+        Some(place) => {
+            let missing = Offence { code: 117, place };
+            match found {
+                Ok(_) => Err(Stop::Out(missing)),
+                Err(stop) => Err(stop_of(missing, stop)),
+            }
+        }
     }
 }
 
@@ -176,4 +195,8 @@ pub fn expand(alloc: Global, tokens: &Tokens) -> Result<Tokens, Stop>
 #[tactic(auto, using(crate::proofs::Unique::one_verdict))]
 pub fn one_verdict()
     ensures { OneVerdict }
-{}
+{
+    cl_macro::expansion::one_verdict();
+    cl_macro::expansion::one_replacement();
+    cl_condition::one_judgement();
+}

@@ -69,9 +69,10 @@ pub fn unended(tokens: &[Token]) -> Option<Place>
 {
     let mut outermost = None;
     let mut depth: usize = 0;
-    for at in 0..tokens.len() {
-        let token = &tokens[at];
-        let word = word_at(token, rest_of(tokens, at + 1));
+    let mut at = 0;
+    for token in tokens {
+        at += 1;
+        let word = word_at(token, rest_of(tokens, at));
         if opens_group(word) {
             if depth == 0 {
                 outermost = Some(token.place);
