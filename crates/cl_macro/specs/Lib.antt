@@ -1,0 +1,12 @@
+pub mod Answers
+pub mod Ends
+pub mod Expansions
+pub mod Firsts
+pub mod Indexed
+pub mod Items
+pub mod Machine
+pub mod Names
+pub mod Replacements
+pub mod Tables
+pub use Rattle.cl_lexer.specs.Marks
+pub use Rattle.clv_place.specs.Places
