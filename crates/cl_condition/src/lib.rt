@@ -7,6 +7,8 @@ pub mod operator;
 mod outcome;
 mod read;
 pub mod term;
+#[cfg(test)]
+mod tests;
 
 pub use judging::{judge, one_judgement};
 pub use operator::{BinaryOperator, UnaryOperator};

@@ -99,7 +99,8 @@ impl BinaryOperator {
         }
     }
 
-    // Whether it reads its operands as unsigned, by whether each is.
+    /// Whether it reads its operands as unsigned, by whether each is (C99 sections 6.3.1.8 and
+    /// 6.5.7).
     pub fn reads_unsigned(self, left: bool, right: bool) -> bool
         ensures { result ≡ reads_unsigned self left right }
     {
@@ -109,7 +110,8 @@ impl BinaryOperator {
         }
     }
 
-    // Whether its value is unsigned, by whether each operand is.
+    /// Whether its value is unsigned, by whether each operand is: that of a comparison, of `&&` and
+    /// of `||` never is.
     pub fn gives_unsigned(self, left: bool, right: bool) -> bool
         ensures { result ≡ gives_unsigned self left right }
     {

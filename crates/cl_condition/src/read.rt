@@ -9,7 +9,7 @@ use crate::outcome::Outcome;
 use crate::term::Term;
 use cl_precedence::grouped;
 use clv_place::NoMemory;
-use std::alloc::{AllocError, AllocFailed, Global};
+use std::alloc::{AllocFailed, Global};
 
 /// Why a reading stops.
 #[derive(Clone, Copy, PartialEq, Eq, Debug)]
