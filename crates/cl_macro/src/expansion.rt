@@ -154,13 +154,7 @@ fn over(room: Room, frames: &Stack<Frame>, out: &Row<Item>) -> Option<Offence>
     if frames.is_empty() {
         match room {
             Room::Endless => None,
-            Room::Tokens(most, full) => {
-                if out.len() >= most {
-                    Some(full)
-                } else {
-                    None
-                }
-            }
+            Room::Tokens(most, full) => { if out.len() >= most { Some(full) } else { None } }
         }
     } else {
         None

@@ -11,3 +11,5 @@ pub mod replace;
 pub mod row;
 pub mod stack;
 pub mod table;
+#[cfg(test)]
+mod tests;

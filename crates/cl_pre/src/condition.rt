@@ -81,13 +81,7 @@ fn asked_of(tokens: &[Token]) -> &[u8]
     ensures { result.now ≡ asked_of tokens.now }
 {
     match tokens {
-        [a, b, ..] => {
-            if is_name(a) {
-                name_of(a)
-            } else {
-                name_of(b)
-            }
-        }
+        [a, b, ..] => { if is_name(a) { name_of(a) } else { name_of(b) } }
         [a] => name_of(a),
         [] => &[],
     }
@@ -145,11 +139,7 @@ fn goes_with(token: &Token, behind: &[Token]) -> usize
 /// The tokens of a condition, in which `defined` is read before macros are replaced (C99 6.10.1): 1 where
 /// its operand names a macro, else 0, and without an operand what stands in no condition. It also fails
 /// for want of memory.
-pub fn condition_of(
-    alloc: Global,
-    table: &Table,
-    tokens: &[Token],
-) -> Result<Row<Item>, NoMemory>
+pub fn condition_of(alloc: Global, table: &Table, tokens: &[Token]) -> Result<Row<Item>, NoMemory>
     ensures { IfOk result (λ r. r ≡ condition_from table.now [] 0 tokens.now) }
 {
     let mut items = Row::new(alloc);
@@ -216,12 +206,7 @@ fn held(place: Place, judged: Judged) -> Result<bool, Stop>
 /// malformed; 120 where it divides by zero in an operand that is evaluated. The last three stand at the
 /// directive's `#`. It also fails for want of memory.
 #[tactic(auto, using(crate::proofs::Steps::conditions))]
-pub fn holds(
-    alloc: Global,
-    table: &Table,
-    place: Place,
-    items: Stack<Item>,
-) -> Result<bool, Stop>
+pub fn holds(alloc: Global, table: &Table, place: Place, items: Stack<Item>) -> Result<bool, Stop>
     ensures { Answers result (Holds table.now place items) }
 {
     let full = Offence { code: 121, place };

@@ -26,11 +26,7 @@ pub struct Parameters {
 pub fn rest_of<T>(items: &[T], at: usize) -> &[T]
     ensures { result.now ≡ drop at items.now }
 {
-    if at < items.len() {
-        &items[at..]
-    } else {
-        &[]
-    }
+    if at < items.len() { &items[at..] } else { &[] }
 }
 
 fn same_kind(a: &TokenKind, b: &TokenKind) -> bool

@@ -2,16 +2,16 @@
 //! on to the parser is tokens alone, or the first offence.
 #![tactic(auto)]
 
-pub mod condition;
-pub mod definition;
-pub mod directive;
+mod condition;
+mod definition;
+mod directive;
 pub mod expansion;
-pub mod front;
-pub mod group;
-pub mod predefined;
-//TEST
-//mod tests;
-pub mod unended;
-pub mod word;
+mod front;
+mod group;
+mod predefined;
+#[cfg(test)]
+mod tests;
+mod unended;
+mod word;
 
 pub use expansion::{MAX_RESULT, expand, one_verdict};

@@ -155,8 +155,14 @@ fn tokens_of(alloc: Global, limit: Limit) -> Result<List<Token>, NoMemory>
     match limit {
         Limit::Number(value, ty) => single(alloc, TokenKind::Number { value, ty }),
         Limit::Least(value, ty) => least(alloc, value, ty),
-        Limit::SignedMax => single(alloc, TokenKind::Name(Text::from_bytes(alloc, b"SCHAR_MAX")?)),
-        Limit::SignedMin => single(alloc, TokenKind::Name(Text::from_bytes(alloc, b"SCHAR_MIN")?)),
+        Limit::SignedMax => single(
+            alloc,
+            TokenKind::Name(Text::from_bytes(alloc, b"SCHAR_MAX")?),
+        ),
+        Limit::SignedMin => single(
+            alloc,
+            TokenKind::Name(Text::from_bytes(alloc, b"SCHAR_MIN")?),
+        ),
     }
 }
 
