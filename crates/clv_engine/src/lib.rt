@@ -16,7 +16,6 @@ mod run_file;
 mod run_module;
 #[cfg(test)]
 mod tests;
-mod token;
 mod top;
 
 pub use compiler::compile;
