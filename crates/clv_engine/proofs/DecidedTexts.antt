@@ -1,12 +1,12 @@
 -- What is read is what is held, and a text is in or out.
-use Rattle.std.proofs.Common.{◌≡◌, ℕ, inl, inr, IsTrue, List, length, Some, refl, sym, ap, ◌∙◌, subst, arith, ◌≤◌, Result, Ok, Err}
+use Rattle.std.proofs.Common.{◌≡◌, ℕ, IsTrue, List, length, Some, refl, sym, ap, ◌∙◌, subst, arith, ◌≤◌, Result, Ok, Err}
 use Rattle.clv_place.specs.declared.stop.Offence.{Offence}
 use Rattle.clv_io.specs.Files.{FilesState, IsTooLarge}
 use Rattle.clv_engine.specs.declared.form.Kernel.{Kernel}
 use Rattle.cl_lexer.specs.declared.token.Tokens.{Tokens}
 use Rattle.cl_lexer.specs.Tokens.{Lexes, too_large, refused, read as reads, OneVerdict as LexedOnce}
 use Rattle.cl_pre.specs.Expansion.{Expansion, OneVerdict as ExpandedOnce}
-use Rattle.clv_engine.specs.FirstForm.{kinds_of, IsRead, IsIn, IsNotBuilt, IsOut, lexing, expanding, forming, InOrOut, OneOffence}
+use Rattle.clv_engine.specs.FirstForm.{kinds_of, IsRead, IsIn, IsNotBuilt, lexing, expanding, forming, InOrOut, OneOffence}
 use Rattle.clv_engine.specs.Command.{IsText}
 
 pub some_is : (a b : List ℕ) → Some a ≡ Some b → a ≡ b

@@ -19,4 +19,5 @@ mod tests;
 mod top;
 
 pub use compiler::compile;
+pub use front::one_verdict;
 pub use top::clv_top;
