@@ -1,20 +1,66 @@
 -- What is read is what is held, and a text is in or out.
-use Rattle.std.proofs.Common.{◌≡◌, ℕ, inl, inr, IsTrue, List, length, Some, sym, ap, ◌∙◌, arith}
+use Rattle.std.proofs.Common.{◌≡◌, ℕ, IsTrue, List, length, Some, refl, sym, ap, ◌∙◌, subst, arith, ◌≤◌, Result, Ok, Err}
 use Rattle.clv_place.specs.declared.stop.Offence.{Offence}
 use Rattle.clv_io.specs.Files.{FilesState, IsTooLarge}
 use Rattle.clv_engine.specs.declared.form.Kernel.{Kernel}
-use Rattle.clv_engine.specs.FirstForm.{IsIn, IsOut}
+use Rattle.cl_lexer.specs.declared.token.Tokens.{Tokens}
+use Rattle.cl_lexer.specs.Tokens.{Lexes, too_large, refused, read as reads, OneVerdict as LexedOnce}
+use Rattle.cl_pre.specs.Expansion.{Expansion, OneVerdict as ExpandedOnce}
+use Rattle.clv_engine.specs.FirstForm.{kinds_of, IsRead, IsIn, IsNotBuilt, lexing, expanding, forming, InOrOut, OneOffence}
 use Rattle.clv_engine.specs.Command.{IsText}
 
 pub some_is : (a b : List ℕ) → Some a ≡ Some b → a ≡ b
 some_is a b e = cc
 
--- no text is in and out
-pub in_out : (text : List ℕ) (k : Kernel) (o : Offence) → IsIn text k → IsOut text o → ⊥
-in_out text k o i u = elim u.cause [
-  | inl long ↦ (let s = i.size in let l = long.long in omega (arith, s, l))
-  | inr built ↦ built.no_kernel k i
-]
+-- ---- the verdicts of the phases
+
+module _ (lexed_once : LexedOnce) (expanded_once : ExpandedOnce) where
+  same_tokens : (text : List ℕ) (a b : Tokens) → Lexes text (Ok a) → Lexes text (Ok b) → a ≡ b
+  same_tokens text a b l m = let e = lexed_once text (Ok a) (Ok b) l m in cc
+
+  -- a text that has tokens has no offence of the lexer
+  lexer_offends : (text : List ℕ) (a : Tokens) (o : Offence) → Lexes text (Ok a) → Lexes text (Err o) → ⊥
+  lexer_offends text a o l m = let e = lexed_once text (Ok a) (Err o) l m in cc
+
+  -- and one whose tokens expand has none of the expansion
+  expansion_offends : (text : List ℕ) (a b c : Tokens) (o : Offence) → IsRead text a c → Lexes text (Ok b) → Expansion b (Err o) → ⊥
+  expansion_offends text a b c o r m f = let g = expanded_once b (Ok c) (Err o) (subst (λ z. Expansion z (Ok c)) (same_tokens text a b r.lexes m) r.expands) f in cc
+
+  same_expanded : (text : List ℕ) (a b c d : Tokens) → IsRead text a c → IsRead text b d → c ≡ d
+  same_expanded text a b c d r q = let g = expanded_once b (Ok c) (Ok d) (subst (λ z. Expansion z (Ok c)) (same_tokens text a b r.lexes q.lexes) r.expands) q.expands in cc
+
+  -- no text is in and out
+  pub in_out : InOrOut
+  in_out text k o i (lexing l) = lexer_offends text i.tokens o i.is_read.lexes l
+  in_out text k o i (expanding a l e) = expansion_offends text i.tokens a i.expanded o i.is_read l e
+  in_out text k o i (forming n) =
+      let e = same_expanded text i.tokens n.tokens i.expanded n.expanded i.is_read n.is_read in
+      n.no_kernel k i.kernel (ap (λ z. kinds_of z.list) (sym e) ∙ i.spelled)
+
+  same_refusal : (text : List ℕ) (o p : Offence) → IsNotBuilt text o → IsNotBuilt text p → o ≡ p
+  same_refusal text o p n m =
+      let c = n.code ∙ sym m.code in
+      let l = n.line ∙ sym m.line in
+      let k = n.col ∙ sym m.col in
+      (λ i. record { code = c i; place = record { line = l i; col = k i } })
+
+  -- a text has one offence
+  pub one_offence : OneOffence
+  one_offence text o p (lexing l) (lexing m) = let e = lexed_once text (Err o) (Err p) l m in cc
+  one_offence text o p (lexing l) (expanding b m f) = absurd (lexer_offends text b o m l)
+  one_offence text o p (lexing l) (forming m) = absurd (lexer_offends text m.tokens o m.is_read.lexes l)
+  one_offence text o p (expanding a l e) (lexing m) = absurd (lexer_offends text a p l m)
+  one_offence text o p (expanding a l e) (expanding b m f) = let g = expanded_once b (Err o) (Err p) (subst (λ z. Expansion z (Err o)) (same_tokens text a b l m) e) f in cc
+  one_offence text o p (expanding a l e) (forming m) = absurd (expansion_offends text m.tokens a m.expanded o m.is_read l e)
+  one_offence text o p (forming n) (lexing m) = absurd (lexer_offends text n.tokens p n.is_read.lexes m)
+  one_offence text o p (forming n) (expanding b m f) = absurd (expansion_offends text n.tokens b n.expanded p n.is_read m f)
+  one_offence text o p (forming n) (forming m) = same_refusal text o p n m
+
+-- a text that is lexed has at most 1 MiB
+size_of : (text : List ℕ) (tokens : Tokens) (w : Result Tokens Offence) → w ≡ Ok tokens → Lexes text w → length text ≤ 1048576
+size_of text tokens w e (too_large h) = absurd (cc)
+size_of text tokens w e (refused o h r) = absurd (cc)
+size_of text tokens w e (reads list end h r s) = h
 
 -- the text that was read is the text that is held
 pub text_is : (files : FilesState) (s text text2 : List ℕ) → IsTrue files.tells → files.held s ≡ Some text → IsText files s text2 → text2 ≡ text
@@ -24,7 +70,7 @@ pub over_out : (files : FilesState) (s text : List ℕ) (seen : ℕ) (k : Kernel
 over_out files s text seen k told held large i =
     let there = large.there told in
     let same = some_is there.0 text (sym there.1 ∙ held) in
-    let size = i.size in
+    let size = size_of text i.tokens (Ok i.tokens) refl i.is_read.lexes in
     let more = large.over in
     let below = there.2 in
     let lengths = ap length same in

@@ -1,5 +1,5 @@
 -- A kernel's module as the rules of validity read it: what is asked of the whole is found in its head.
-use Rattle.std.proofs.Common.{◌≡◌, ℕ, ◌+◌, Bool, true, false, List, [], ◌∷◌, ◌++◌, cond, refl, ap, ◌∙◌}
+use Rattle.std.proofs.Common.{◌≡◌, ℕ, ◌+◌, true, false, List, [], ◌∷◌, ◌++◌, refl, ap, ◌∙◌}
 use Rattle.std.specs.Prelude.{filter, not, ◌&&◌}
 use Rattle.std.specs.List.{list_any}
 use Rattle.spv_module.specs.declared.module.Inst.{Inst}

@@ -1,5 +1,5 @@
 -- A kernel's module is valid.
-use Rattle.std.proofs.Common.{◌≡◌, ℕ, true, List, [], ◌∷◌, refl, sym, subst}
+use Rattle.std.proofs.Common.{◌≡◌, true, List, [], sym, subst}
 use Rattle.std.specs.Prelude.{All}
 use Rattle.std.proofs.lemmas.List.Elements.{All-nil, All-cons, All-from_recursion}
 use Rattle.clv_engine.specs.declared.form.Kernel.{Kernel}
@@ -8,9 +8,9 @@ use Rattle.clv_engine.specs.FirstForm.{IsKernel}
 use Rattle.clv_engine.proofs.FactsLines.{the_whole, whole_is, the_function, the_block, one_block, block_returns}
 use Rattle.clv_engine.proofs.FactsValidPlain.{kept_0, kept_2, kept_3, kept_4, kept_5, kept_10, kept_11, kept_13, kept_14, kept_15, kept_16, kept_17, kept_18, kept_19, kept_20, kept_21, kept_24, kept_25, kept_26, kept_27, kept_28, kept_29, kept_44}
 use Rattle.clv_engine.proofs.FactsValidIds.{kept_1, kept_6, kept_7, kept_8, kept_9, kept_12, kept_22, kept_31, kept_33, kept_36, kept_37, kept_38, kept_41, kept_43}
-use Rattle.spv_types_rules.specs.Lines.{Func, Whole, whole, lines_of}
+use Rattle.spv_types_rules.specs.Lines.{Whole}
 use Rattle.spv_types_rules.specs.Functions.{Block, IsSequence, exits}
-use Rattle.spv_types_rules.specs.Rules.{Rule, rules, is_kept_in, IsKept, IsFunctionStructured, IsValid}
+use Rattle.spv_types_rules.specs.Rules.{Rule, rules, is_kept_in, IsFunctionStructured, IsValid}
 
 abbrev IsKeptIn : Whole → Rule → Type 0
 IsKeptIn w r = is_kept_in r w ≡ true

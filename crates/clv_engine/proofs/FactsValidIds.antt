@@ -1,28 +1,23 @@
 -- The rules that a kernel's module keeps by what its ids are.
-use Rattle.std.proofs.Common.{◌≡◌, ℕ, ◌+◌, ◌≤◌, Bool, true, false, List, [], ◌∷◌, ◌++◌, Option, Some, None, refl, sym, ap, ◌∙◌, arith}
-use Rattle.std.specs.Prelude.{◌&&◌, ◌||◌, not}
+use Rattle.std.proofs.Common.{◌≡◌, ℕ, ◌+◌, Bool, true, false, List, [], ◌∷◌, Some, refl, ap, ◌∙◌, arith}
+use Rattle.std.specs.Prelude.{◌&&◌, not}
 use Rattle.clv_engine.specs.declared.form.Kernel.{Kernel}
 use Rattle.clv_engine.specs.declared.id.TheConstants as id
-use Rattle.clv_engine.specs.Emitted.{constants_from}
-use Rattle.clv_engine.proofs.FactsScans.{code_of}
-use Rattle.clv_engine.proofs.FactsLines.{const_line, main_line, label_line, load_line, extract_line, add_line, chain_line, store_line, return_line, end_line, kernel_line, name_line, buffer_line, sizes_line, the_whole}
-use Rattle.clv_engine.proofs.FactsWalk.{IsUint, IsReached, Step, constant, main, label, load, extract, add, chain, store, return, end, kernel, name, buffer, sizes, Walk, none, step, both, by_steps, behind_head, walk, main_found}
-use Rattle.spv_types_rules.specs.Lines.{Line, Whole, Spot, lines_from}
-use Rattle.spv_types_rules.specs.Rules.{Rule, rule, rule_with, nothing, anywhere, all_keep, is_kept_in}
-use Rattle.clv_engine.specs.declared.form.Term.{Term}
-use Rattle.clv_engine.proofs.FactsLines.{main_ended, one_block, block_returns, the_block}
+use Rattle.clv_engine.proofs.FactsLines.{main_line, extract_line, add_line, chain_line, store_line, kernel_line, buffer_line, the_whole}
+use Rattle.clv_engine.proofs.FactsWalk.{IsUint, IsReached, Step, constant, main, label, load, extract, add, chain, store, return, end, kernel, name, buffer, sizes, Walk, none, step, both, behind_head, walk, main_found}
+use Rattle.spv_types_rules.specs.Lines.{Line, Whole, Spot}
+use Rattle.spv_types_rules.specs.Rules.{rule, all_keep, is_kept_in}
 use Rattle.clv_engine.proofs.FactsValidPlain.{behind, from_walk, with_has}
-use Rattle.std.specs.List.{list_all, list_any}
-use Rattle.std.proofs.Common.{inl, inr, ◌<◌, cond, ne_eqb}
-use Rattle.std.specs.Prelude.{◌⊎◌, nat_eq, find}
+use Rattle.std.specs.List.{list_all}
+use Rattle.std.proofs.Common.{inl, inr, cond, ne_eqb}
 use Rattle.spv_module.specs.Options.{is_there}
 use Rattle.spv_module.specs.declared.op.TheConstants as op
-use Rattle.spv_types_rules.specs.Lines.{defines, defined, value_opcodes, has_op, has_op_among, is_some_of, is_op, is_op_of, to_end, is_ended, type_by, type_of, same_id, pointee, is_int_of}
-use Rattle.spv_types_rules.specs.Sections.{is_in_order, follows}
+use Rattle.spv_types_rules.specs.Lines.{has_op, is_some_of, is_op_of, to_end, is_ended, type_by, type_of, same_id, pointee}
+use Rattle.spv_types_rules.specs.Sections.{is_in_order}
 use Rattle.spv_types_rules.specs.Ids.{defines_once, keeps_kinds, is_ordered, keeps_uses, is_defined, is_value, is_value_line, may_use, may_use_by, reaches, function_makes, block_makes, makes}
 use Rattle.spv_types_rules.specs.Types.{keeps_arrays, may_name_array, may_name_struct}
 use Rattle.spv_types_rules.specs.Variables.{keeps_fixed, is_fixed, place_by, place_from, chain_base, steps_from, indices}
-use Rattle.spv_types_rules.specs.Functions.{keeps_functions, keeps_blocks, keeps_returns, is_terminated, begins_with_label}
+use Rattle.spv_types_rules.specs.Functions.{keeps_functions, keeps_blocks, keeps_returns, begins_with_label}
 use Rattle.spv_types_rules.specs.Values.{keeps_operands, keeps_accesses, keeps_chains, keeps_composites, has_shape, shape_of, is_same_shape}
 
 abbrev at : Kernel → List Line → Line → List Line → Spot

@@ -1,14 +1,13 @@
 -- The rules that a kernel's module keeps by what its instructions are alone.
-use Rattle.std.proofs.Common.{◌≡◌, ℕ, ◌+◌, ◌≤◌, Bool, true, false, List, [], ◌∷◌, ◌++◌, Option, Some, None, refl, sym, ap, ◌∙◌, arith}
-use Rattle.std.specs.Prelude.{◌&&◌, ◌||◌, not}
+use Rattle.std.proofs.Common.{◌≡◌, Bool, true, false, List, [], ◌++◌, refl, ◌∙◌}
 use Rattle.clv_engine.specs.declared.form.Kernel.{Kernel}
 use Rattle.clv_engine.specs.declared.id.TheConstants as id
 use Rattle.clv_engine.specs.Emitted.{constants_from}
 use Rattle.clv_engine.proofs.FactsScans.{code_of}
-use Rattle.clv_engine.proofs.FactsLines.{const_line, main_line, label_line, load_line, extract_line, add_line, chain_line, store_line, return_line, end_line, kernel_line, name_line, buffer_line, sizes_line, the_whole}
-use Rattle.clv_engine.proofs.FactsWalk.{IsUint, Step, constant, main, label, load, extract, add, chain, store, return, end, kernel, name, buffer, sizes, Walk, none, step, both, by_steps, behind_head, walk, main_found}
+use Rattle.clv_engine.proofs.FactsLines.{the_whole}
+use Rattle.clv_engine.proofs.FactsWalk.{Step, constant, both, by_steps, behind_head, walk}
 use Rattle.spv_types_rules.specs.Lines.{Line, Whole, Spot, lines_from}
-use Rattle.spv_types_rules.specs.Rules.{Rule, rule, rule_with, nothing, anywhere, all_keep, is_kept_in}
+use Rattle.spv_types_rules.specs.Rules.{Rule, rule, rule_with, anywhere, all_keep, is_kept_in}
 use Rattle.spv_types_rules.specs.Sections.{is_known, keeps_model, has_model, keeps_capability, has_capabilities, keeps_extension, has_extensions, keeps_import, has_import}
 use Rattle.spv_types_rules.specs.Types.{is_new_type, is_good_type, keeps_layout, keeps_places, is_small_type}
 use Rattle.spv_types_rules.specs.Variables.{keeps_storage, keeps_bound, keeps_apart, keeps_push, keeps_input, keeps_marks, keeps_pointers}

@@ -2,7 +2,7 @@
 use Rattle.std.proofs.Common.{◌≡◌, ℕ, ◌+◌, ◌<◌, ◌≤◌, Bool, true, false, ◌||◌, List, [], ◌∷◌, ◌++◌, Option, Some, None, cond, refl, sym, ap, ◌∙◌, arith, ne_eqb}
 use Rattle.std.specs.List.{list_all}
 use Rattle.std.proofs.lemmas.Bool.Decides.{nat_tests}
-use Rattle.std.specs.Prelude.{find, nat_eq, nat_le, nat_lt, ◌&&◌, ◌⊎◌, not}
+use Rattle.std.specs.Prelude.{find, nat_eq, nat_le, nat_lt, ◌&&◌, ◌⊎◌}
 use Rattle.std.proofs.Common.{inl, inr}
 use Rattle.spv_module.specs.declared.module.Inst.{Inst}
 use Rattle.spv_module.specs.declared.module.Operand.TheVariants.{Id, Word}
@@ -11,9 +11,9 @@ use Rattle.clv_engine.specs.declared.form.Kernel.{Kernel}
 use Rattle.clv_engine.specs.declared.form.Term.{Term}
 use Rattle.clv_engine.specs.declared.form.Term.TheVariants.{GlobalId, Literal}
 use Rattle.clv_engine.specs.declared.id.TheConstants as id
-use Rattle.clv_engine.specs.Emitted.{inst, head, constants_from, function_begin, global_id, term, value, terms, sums_from, sum_from, sum, function_end, reflection, body_of}
+use Rattle.clv_engine.specs.Emitted.{inst, head, constants_from, global_id, terms, sums_from, sum_from, sum, function_end, reflection}
 use Rattle.clv_engine.proofs.FactsScans.{code_of}
-use Rattle.clv_engine.proofs.FactsLines.{const_line, label_line, load_line, extract_line, add_line, chain_line, store_line, return_line, end_line, kernel_line, name_line, buffer_line, sizes_line, code_behind, behind_label, main_line, the_function, the_whole, main_ended, block_terminated}
+use Rattle.clv_engine.proofs.FactsLines.{const_line, label_line, load_line, extract_line, add_line, chain_line, store_line, return_line, end_line, kernel_line, name_line, buffer_line, sizes_line, code_behind, behind_label, main_line, the_whole, main_ended, block_terminated}
 use Rattle.spv_types_rules.specs.Lines.{Line, Whole, Spot, line, lines_from, lines_of, has_op, has_op_among, constant_opcodes, value_opcodes, is_id, is_op_of, ends_function, to_end, is_ended, defines, defined, type_by}
 use Rattle.spv_types_rules.specs.Sections.{section, follows}
 use Rattle.spv_types_rules.specs.Ids.{makes, block_makes}

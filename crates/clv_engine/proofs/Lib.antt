@@ -3,7 +3,6 @@ pub mod CommandWords
 pub mod Compiled
 pub mod Decided
 pub mod DecidedTexts
-pub mod Decimals
 pub mod Defined
 pub mod FactsInterface
 pub mod FactsLines
@@ -21,6 +20,7 @@ pub mod Literals
 pub mod Loading
 pub mod NumberTests
 pub mod Places
+pub mod Prefixes
 pub mod Refusals
 pub mod RunFacts
 pub mod RunDecided
@@ -29,7 +29,6 @@ pub mod Samples
 pub mod ScheduledFacts
 pub mod Simulation
 pub mod SourceRun
-pub mod Spelling
 pub mod Storing
 pub mod Sums
 pub mod TargetRun

@@ -1,34 +1,34 @@
--- What a text's tokens say of the kernel that it is.
-use Rattle.std.proofs.Common.{◌≡◌, ℕ, ◌<◌, ◌≤◌, inl, inr, List, length, sym, subst}
+-- What the phases say of the kernel that a text is.
+use Rattle.std.proofs.Common.{◌≡◌, Ok}
 use Rattle.clv_place.specs.declared.stop.Offence.{Offence}
-use Rattle.clv_engine.specs.declared.token.Token.{Token}
+use Rattle.clv_place.specs.declared.stop.Stop.{Stop}
+use Rattle.clv_place.specs.declared.stop.Stop.TheVariants.{Out, NoMemory}
+use Rattle.std.proofs.Common.{ℕ, List}
+use Rattle.cl_lexer.specs.declared.token.Tokens.{Tokens}
+use Rattle.cl_lexer.specs.Answers.{AnswersStop as LexerStop}
+use Rattle.cl_lexer.specs.Tokens.{Lexes}
+use Rattle.cl_pre.specs.Answers.{AnswersStop}
+use Rattle.cl_pre.specs.Expansion.{Expansion}
 use Rattle.clv_engine.specs.declared.form.Kernel.{Kernel}
-use Rattle.clv_engine.specs.FirstForm.{Spells, kernel_tokens, IsKernel, IsIn, IsOut}
-use Rattle.clv_engine.specs.Lexing.{IsOnlySpelling, HasNoSpelling}
+use Rattle.clv_engine.specs.FirstForm.{kinds_of, kernel_tokens, IsKernel, IsRead, IsIn, IsOut, lexing, expanding, forming, IsStopOf}
 use Rattle.clv_engine.specs.Forming.{IsNoKernel}
 
-pub is_in : (text : List ℕ) (ts : List Token) (k : Kernel) → length text ≤ 1048576 → IsOnlySpelling text ts → IsKernel k → ts ≡ kernel_tokens k → IsIn text k
-is_in text ts k size spelling kernel e = record { size = size; kernel = kernel; spelled = subst (λ z. Spells z text) e spelling.spells }
+-- a text with its tokens and what they expand to
+pub read_of : (text : List ℕ) (tokens expanded : Tokens) → Lexes text (Ok tokens) → Expansion tokens (Ok expanded) → IsRead text tokens expanded
+read_of text tokens expanded l e = record { lexes = l; expands = e }
 
--- an offence with this code that stands at 1:1
-pub record IsRefusal (o : Offence) (code : ℕ) : Type 0 where
-  pub is_code : o.code ≡ code
-  pub line : o.place.line ≡ 1
-  pub col : o.place.col ≡ 1
+pub is_in : (text : List ℕ) (tokens expanded : Tokens) (k : Kernel) → IsRead text tokens expanded → IsKernel k → kinds_of expanded.list ≡ kernel_tokens k → IsIn text k
+is_in text tokens expanded k r kernel e = record { tokens = tokens; expanded = expanded; is_read = r; kernel = kernel; spelled = e }
 
-pub refused : (o : Offence) (code : ℕ) → o.code ≡ code → o.place.line ≡ 1 → o.place.col ≡ 1 → IsRefusal o code
-refused o code is line col = record { is_code = is; line = line; col = col }
+pub lexer_stops : (text : List ℕ) (s : Stop) → LexerStop s (Lexes text) → IsStopOf text s
+lexer_stops text (Out o) h = lexing h
+lexer_stops text NoMemory h = tt
 
-pub too_long : (text : List ℕ) (o : Offence) → IsRefusal o 105 → 1048576 < length text → IsOut text o
-too_long text o r long = record { line = r.line; col = r.col; cause = inl (record { code = r.is_code; long = long }) }
+pub expansion_stops : (text : List ℕ) (tokens : Tokens) (s : Stop) → Lexes text (Ok tokens) → AnswersStop s (Expansion tokens) → IsStopOf text s
+expansion_stops text tokens (Out o) l h = expanding tokens l h
+expansion_stops text tokens NoMemory l h = tt
 
-not_built : (text : List ℕ) (o : Offence) → IsRefusal o 900 → length text ≤ 1048576 → ((k : Kernel) → IsIn text k → ⊥) → IsOut text o
-not_built text o r short none = record { line = r.line; col = r.col; cause = inr (record { code = r.is_code; short = short; no_kernel = none }) }
+pub not_built : (text : List ℕ) (tokens expanded : Tokens) (o : Offence) → IsRead text tokens expanded → IsNoKernel (kinds_of expanded.list) → o.code ≡ 900 → o.place.line ≡ 1 → o.place.col ≡ 1 → IsOut text o
+not_built text tokens expanded o r none code line col = forming (record { tokens = tokens; expanded = expanded; is_read = r; no_kernel = none; code = code; line = line; col = col })
 
-pub no_tokens : (text : List ℕ) (o : Offence) → IsRefusal o 900 → length text ≤ 1048576 → HasNoSpelling text → IsOut text o
-no_tokens text o r short none = not_built text o r short (λ k is. none (kernel_tokens k) is.spelled)
-
-pub other_tokens : (text : List ℕ) (ts : List Token) (o : Offence) → IsRefusal o 900 → length text ≤ 1048576 → IsOnlySpelling text ts → IsNoKernel ts → IsOut text o
-other_tokens text ts o r short spelling none = not_built text o r short (λ k is. none k is.kernel (sym (spelling.only (kernel_tokens k) is.spelled)))
-
-pub ruleset refusals = (is_in, refused, too_long, no_tokens, other_tokens)
+pub ruleset refusals = (read_of, is_in, lexer_stops, expansion_stops, not_built)

@@ -11,14 +11,14 @@ use Rattle.launch_text.specs.Rules.{LoadedLaunch, loaded, Parameter, KeepsRules,
 use Rattle.clv_worlds.specs.Worlds.{IsDefined}
 use Rattle.spv_meaning.specs.Schedule.{Invocations, Ending, IsDone, HasTrapped, IsSpent}
 use Rattle.clv_engine.specs.declared.form.Kernel.{Kernel}
-use Rattle.clv_engine.specs.FirstForm.{IsIn, IsOut}
+use Rattle.clv_engine.specs.FirstForm.{IsIn, IsOut, InOrOut}
 use Rattle.clv_engine.specs.LaunchWorlds.{shared_of, source_world}
 use Rattle.clv_engine.specs.Promises.{Fits, takes_of}
 use Rattle.clv_engine.specs.RunCommand.{Reads, whole, over, IsRefused, is_out, is_over, HoldBuffers, IsReady, IsLoaded, ModuleRuns, RunComesTo, absent, launch_absent, refused, faulty, seeded, buffer_absent, buffer_over, misfit, too_much, trapped, spent, ran, unstored, starved}
 use Rattle.clv_engine.specs.TopCall.{EndsRun, IsAsked, RunDecides}
 use Rattle.clv_engine.specs.TopCall.{done as ends_done, not_run as ends_not_run, trapped as ends_trapped, spent as ends_spent, starved as ends_starved}
 use Rattle.clv_engine.proofs.BindingFacts.{bound_taken}
-use Rattle.clv_engine.proofs.DecidedTexts.{in_out, text_is, over_out}
+use Rattle.clv_engine.proofs.DecidedTexts.{text_is, over_out}
 use Rattle.clv_engine.proofs.RunStages.{read_some}
 use Rattle.clv_engine.proofs.ScheduledFacts.{never_traps}
 
@@ -45,9 +45,9 @@ read_none : (old : FilesState) (name : List ℕ) (max : ℕ) (s : Option (List �
 read_none old name max _ (whole t i l) e = absurd (some_never t e)
 read_none old name max _ (over seen l) e = (seen, l)
 
-refused_in : (files files2 : FilesState) (source launch text said : List ℕ) (k : Kernel) (o : Offence) (s t : Option (List ℕ)) → RunGiven files files2 source launch text said → IsIn text k → Reads files source 1048576 s → s ≡ t → IsRefused o t → ⊥
-refused_in files files2 source launch text said k o s _ g i rs e (is_out bytes out) = in_out text k o i (subst (λ z. IsOut z o) (text_is files source text bytes g.told g.held (read_some files source 1048576 s bytes rs e)) out)
-refused_in files files2 source launch text said k o s _ g i rs e (is_over a b c) = (let x = read_none files source 1048576 s rs e in over_out files source text x.0 k g.told g.held x.1 i)
+refused_in : InOrOut → (files files2 : FilesState) (source launch text said : List ℕ) (k : Kernel) (o : Offence) (s t : Option (List ℕ)) → RunGiven files files2 source launch text said → IsIn text k → Reads files source 1048576 s → s ≡ t → IsRefused o t → ⊥
+refused_in in_out files files2 source launch text said k o s _ g i rs e (is_out bytes out) = in_out text k o i (subst (λ z. IsOut z o) (text_is files source text bytes g.told g.held (read_some files source 1048576 s bytes rs e)) out)
+refused_in in_out files files2 source launch text said k o s _ g i rs e (is_over a b c) = (let x = read_none files source 1048576 s rs e in over_out files source text x.0 k g.told g.held x.1 i)
 
 -- ---- how it ends
 
@@ -61,21 +61,21 @@ data Ended (source launch : List ℕ) (files : FilesState) (status : ℕ) : Type
   is_told : (status ≡ 6) ⊎ (status ≡ 4) → Ended source launch files status
   has_run : (r : IsReady files source launch) (turn : ℕ) (l : LoadedLaunch) (e : Ending) (w : Invocations) → IsLoaded r turn l → ModuleRuns r.compiled.made l turn r.plan.steps e w → status ≡ status_by e → Ended source launch files status
 
-ends_so : (files files2 : FilesState) (source launch text said : List ℕ) (k : Kernel) (status : ℕ) (out : List ℕ) → RunGiven files files2 source launch text said → IsIn text k → RunComesTo source launch files files2 status out → Ended source launch files status
-ends_so files files2 source launch text said k _ _ g i (absent n) = absurd (g.calm n.rose)
-ends_so files files2 source launch text said k _ _ g i (launch_absent s h n) = absurd (g.calm n.rose)
-ends_so files files2 source launch text said k _ _ g i (refused o s rs x u) = absurd (refused_in files files2 source launch text said k o s s g i rs refl x)
-ends_so files files2 source launch text said k _ _ g i (faulty t bytes number line s is c rs x u) = is_told (inl refl)
-ends_so files files2 source launch text said k _ _ g i (seeded r seed e u) = is_told (inl refl)
-ends_so files files2 source launch text said k _ _ g i (buffer_absent r file name bs c d n) = absurd (g.calm n.rose)
-ends_so files files2 source launch text said k _ _ g i (buffer_over r file seen n name bs e h x y u) = is_told (inl refl)
-ends_so files files2 source launch text said k _ _ g i (misfit r turn l b is x u) = is_told (inl refl)
-ends_so files files2 source launch text said k _ _ g i (too_much r turn l is x u) = is_told (inl refl)
-ends_so files files2 source launch text said k _ _ g i (trapped r turn l t steps w is x u) = has_run r turn l (HasTrapped t steps) w is x refl
-ends_so files files2 source launch text said k _ _ g i (spent r turn l w is x u) = has_run r turn l IsSpent w is x refl
-ends_so files files2 source launch text said k _ _ g i (ran r turn l steps stores is x h) = has_run r turn l (IsDone steps) x.world is x.runs refl
-ends_so files files2 source launch text said k _ _ g i (unstored r turn l steps before behind name bytes is x h) = absurd (g.calm h.rose)
-ends_so files files2 source launch text said k _ _ g i (starved u) = is_told (inr refl)
+ends_so : InOrOut → (files files2 : FilesState) (source launch text said : List ℕ) (k : Kernel) (status : ℕ) (out : List ℕ) → RunGiven files files2 source launch text said → IsIn text k → RunComesTo source launch files files2 status out → Ended source launch files status
+ends_so in_out files files2 source launch text said k _ _ g i (absent n) = absurd (g.calm n.rose)
+ends_so in_out files files2 source launch text said k _ _ g i (launch_absent s h n) = absurd (g.calm n.rose)
+ends_so in_out files files2 source launch text said k _ _ g i (refused o s rs x u) = absurd (refused_in in_out files files2 source launch text said k o s s g i rs refl x)
+ends_so in_out files files2 source launch text said k _ _ g i (faulty t bytes number line s is c rs x u) = is_told (inl refl)
+ends_so in_out files files2 source launch text said k _ _ g i (seeded r seed e u) = is_told (inl refl)
+ends_so in_out files files2 source launch text said k _ _ g i (buffer_absent r file name bs c d n) = absurd (g.calm n.rose)
+ends_so in_out files files2 source launch text said k _ _ g i (buffer_over r file seen n name bs e h x y u) = is_told (inl refl)
+ends_so in_out files files2 source launch text said k _ _ g i (misfit r turn l b is x u) = is_told (inl refl)
+ends_so in_out files files2 source launch text said k _ _ g i (too_much r turn l is x u) = is_told (inl refl)
+ends_so in_out files files2 source launch text said k _ _ g i (trapped r turn l t steps w is x u) = has_run r turn l (HasTrapped t steps) w is x refl
+ends_so in_out files files2 source launch text said k _ _ g i (spent r turn l w is x u) = has_run r turn l IsSpent w is x refl
+ends_so in_out files files2 source launch text said k _ _ g i (ran r turn l steps stores is x h) = has_run r turn l (IsDone steps) x.world is x.runs refl
+ends_so in_out files files2 source launch text said k _ _ g i (unstored r turn l steps before behind name bytes is x h) = absurd (g.calm h.rose)
+ends_so in_out files files2 source launch text said k _ _ g i (starved u) = is_told (inr refl)
 
 -- ---- what was read is what is held
 
@@ -170,24 +170,24 @@ no_seven : (source launch : List ℕ) (files : FilesState) (status : ℕ) → En
 no_seven source launch files status (is_told h) never seven = told_no_seven status h seven
 no_seven source launch files status (has_run r turn l e w x runs f) never seven = never r turn l e w x runs (sym f ∙ seven)
 
-out_ready : (files files2 : FilesState) (source launch text said : List ℕ) (o : Offence) → RunGiven files files2 source launch text said → IsOut text o → IsReady files source launch → ⊥
-out_ready files files2 source launch text said o g x r = in_out text r.compiled.good.kernel o (ready_in files files2 source launch text said g r) x
+out_ready : InOrOut → (files files2 : FilesState) (source launch text said : List ℕ) (o : Offence) → RunGiven files files2 source launch text said → IsOut text o → IsReady files source launch → ⊥
+out_ready in_out files files2 source launch text said o g x r = in_out text r.compiled.good.kernel o (ready_in files files2 source launch text said g r) x
 
-out_gives : (files files2 : FilesState) (source launch text said : List ℕ) (o : Offence) (status : ℕ) (out : List ℕ) → RunGiven files files2 source launch text said → IsOut text o → RunComesTo source launch files files2 status out → (status ≡ 1) ⊎ (status ≡ 4)
-out_gives files files2 source launch text said o _ _ g i (absent n) = absurd (g.calm n.rose)
-out_gives files files2 source launch text said o _ _ g i (launch_absent s h n) = absurd (g.calm n.rose)
-out_gives files files2 source launch text said o _ _ g i (refused p s rs x u) = inl refl
-out_gives files files2 source launch text said o _ _ g i (faulty t bytes number line s is c rs x u) = absurd (in_out text c.good.kernel o (subst (λ z. IsIn z c.good.kernel) (text_is files source text t g.told g.held is) c.good.accepted) i)
-out_gives files files2 source launch text said o _ _ g i (seeded r seed e u) = absurd (out_ready files files2 source launch text said o g i r)
-out_gives files files2 source launch text said o _ _ g i (buffer_absent r file name bs c d n) = absurd (g.calm n.rose)
-out_gives files files2 source launch text said o _ _ g i (buffer_over r file seen n name bs e h x y u) = absurd (out_ready files files2 source launch text said o g i r)
-out_gives files files2 source launch text said o _ _ g i (misfit r turn l b is x u) = absurd (out_ready files files2 source launch text said o g i r)
-out_gives files files2 source launch text said o _ _ g i (too_much r turn l is x u) = absurd (out_ready files files2 source launch text said o g i r)
-out_gives files files2 source launch text said o _ _ g i (trapped r turn l t steps w is x u) = absurd (out_ready files files2 source launch text said o g i r)
-out_gives files files2 source launch text said o _ _ g i (spent r turn l w is x u) = absurd (out_ready files files2 source launch text said o g i r)
-out_gives files files2 source launch text said o _ _ g i (ran r turn l steps stores is x h) = absurd (out_ready files files2 source launch text said o g i r)
-out_gives files files2 source launch text said o _ _ g i (unstored r turn l steps before behind name bytes is x h) = absurd (g.calm h.rose)
-out_gives files files2 source launch text said o _ _ g i (starved u) = inr refl
+out_gives : InOrOut → (files files2 : FilesState) (source launch text said : List ℕ) (o : Offence) (status : ℕ) (out : List ℕ) → RunGiven files files2 source launch text said → IsOut text o → RunComesTo source launch files files2 status out → (status ≡ 1) ⊎ (status ≡ 4)
+out_gives in_out files files2 source launch text said o _ _ g i (absent n) = absurd (g.calm n.rose)
+out_gives in_out files files2 source launch text said o _ _ g i (launch_absent s h n) = absurd (g.calm n.rose)
+out_gives in_out files files2 source launch text said o _ _ g i (refused p s rs x u) = inl refl
+out_gives in_out files files2 source launch text said o _ _ g i (faulty t bytes number line s is c rs x u) = absurd (in_out text c.good.kernel o (subst (λ z. IsIn z c.good.kernel) (text_is files source text t g.told g.held is) c.good.accepted) i)
+out_gives in_out files files2 source launch text said o _ _ g i (seeded r seed e u) = absurd (out_ready in_out files files2 source launch text said o g i r)
+out_gives in_out files files2 source launch text said o _ _ g i (buffer_absent r file name bs c d n) = absurd (g.calm n.rose)
+out_gives in_out files files2 source launch text said o _ _ g i (buffer_over r file seen n name bs e h x y u) = absurd (out_ready in_out files files2 source launch text said o g i r)
+out_gives in_out files files2 source launch text said o _ _ g i (misfit r turn l b is x u) = absurd (out_ready in_out files files2 source launch text said o g i r)
+out_gives in_out files files2 source launch text said o _ _ g i (too_much r turn l is x u) = absurd (out_ready in_out files files2 source launch text said o g i r)
+out_gives in_out files files2 source launch text said o _ _ g i (trapped r turn l t steps w is x u) = absurd (out_ready in_out files files2 source launch text said o g i r)
+out_gives in_out files files2 source launch text said o _ _ g i (spent r turn l w is x u) = absurd (out_ready in_out files files2 source launch text said o g i r)
+out_gives in_out files files2 source launch text said o _ _ g i (ran r turn l steps stores is x h) = absurd (out_ready in_out files files2 source launch text said o g i r)
+out_gives in_out files files2 source launch text said o _ _ g i (unstored r turn l steps before behind name bytes is x h) = absurd (g.calm h.rose)
+out_gives in_out files files2 source launch text said o _ _ g i (starved u) = inr refl
 
 one_or_four : (answer status : ℕ) → answer ≡ status → (status ≡ 1) ⊎ (status ≡ 4) → (answer ≡ 1) ⊎ (answer ≡ 4)
 one_or_four answer status e (inl f) = inl (e ∙ f)
@@ -199,11 +199,11 @@ err_ok f l e = cc
 mixed_robin : (seed turn : ℕ) → ◌≡◌ {A = Schedule} (Mixed seed) (Robin turn) → ⊥
 mixed_robin seed turn e = cc
 
-pub run_decided : (files files2 : FilesState) (source launch text said : List ℕ) (status answer : ℕ) (out : List ℕ) → answer ≡ status → RunGiven files files2 source launch text said → RunComesTo source launch files files2 status out → RunDecides files text said answer
-run_decided files files2 source launch text said status answer out is g c =
-    let ended = λ (k : Kernel) (i : IsIn text k). ends_so files files2 source launch text said k status out g i c in
+pub run_decided : InOrOut → (files files2 : FilesState) (source launch text said : List ℕ) (status answer : ℕ) (out : List ℕ) → answer ≡ status → RunGiven files files2 source launch text said → RunComesTo source launch files files2 status out → RunDecides files text said answer
+run_decided in_out files files2 source launch text said status answer out is g c =
+    let ended = λ (k : Kernel) (i : IsIn text k). ends_so in_out files files2 source launch text said k status out g i c in
     record {
-      refused = λ o i. one_or_four answer status is (out_gives files files2 source launch text said o status out g i c);
+      refused = λ o i. one_or_four answer status is (out_gives in_out files files2 source launch text said o status out g i c);
       faulty = λ k f i e. told_only source launch files status answer is (ended k i) (λ r turn l end w x runs. err_ok f r.plan (sym e ∙ ready_said files files2 source launch text said g r));
       seeded = λ k q seed i e m. told_only source launch files status answer is (ended k i) (λ r turn l end w x runs. (
           let same : q ≡ r.plan = ok_same q r.plan (sym e ∙ ready_said files files2 source launch text said g r) in

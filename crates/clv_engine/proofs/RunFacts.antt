@@ -1,5 +1,5 @@
 -- What the machine's run comes to, for the launch.
-use Rattle.std.proofs.Common.{◌≡◌, ℕ, zero, suc, ◌+◌, ◌≤◌, ◌<◌, Bool, List, [], ◌∷◌, ◌++◌, length, take, drop, Some, refl, sym, ap, ◌∙◌, subst, arith}
+use Rattle.std.proofs.Common.{◌≡◌, ℕ, zero, suc, ◌+◌, ◌≤◌, Bool, List, [], ◌∷◌, length, refl, sym, ap, ◌∙◌, subst, arith}
 use Rattle.launch_text.specs.WorkItems.{volume}
 use Rattle.launch_text.specs.declared.launch.Launch.{Launch}
 use Rattle.launch_text.specs.Rules.{LoadedLaunch, loaded}
@@ -9,13 +9,13 @@ use Rattle.clv_steps.specs.Machines.{Status, Runs, Asks, Ends, Fails}
 use Rattle.spv_meaning.specs.Events.{Event, Write, Asked}
 use Rattle.spv_meaning.specs.Start.{Bound, Start}
 use Rattle.spv_meaning.specs.Worlds.{Buffers, put_in, after_event}
-use Rattle.spv_meaning.specs.Schedule.{Invocations, Ending, IsDone, after_status, after_step, status_of, Turns, complete, spent, turned, traps, ends, goes, ScheduledRun}
+use Rattle.spv_meaning.specs.Schedule.{Invocations, Ending, after_status, after_step, status_of, Turns, complete, spent, turned, traps, ends, goes}
 use Rattle.vk_bind.specs.Binding.{BindsTo}
-use Rattle.vk_bind.specs.Answers.{bounds_from, start_from, Keeps}
+use Rattle.vk_bind.specs.Answers.{bounds_from, start_from}
 use Rattle.vk_bind.specs.declared.start.Start.{Start as Begin}
 use Rattle.clv_engine.specs.declared.outcome.Outcome.{Outcome}
 use Rattle.clv_engine.specs.declared.outcome.Outcome.TheVariants as outcome
-use Rattle.clv_engine.specs.RunCommand.{ModuleRuns, is_marked}
+use Rattle.clv_engine.specs.RunCommand.{is_marked}
 use Rattle.clv_engine.specs.RunSteps.{marks, IsComplete, ComesOut, ComesFrom, DoneFrom, RunsFrom}
 use Rattle.clv_engine.proofs.ScheduledFacts.{starts_from}
 

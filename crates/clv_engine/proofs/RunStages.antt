@@ -1,5 +1,5 @@
 -- What the steps of `run` come to, each from what its callee came to.
-use Rattle.std.proofs.Common.{◌≡◌, ℕ, zero, suc, ◌+◌, ◌≤◌, ◌<◌, Bool, true, false, cond, List, [], ◌∷◌, length, IsTrue, Option, Some, None, Ok, Err, refl, sym, ap, ◌∙◌, subst, arith, get_or, slice_get, take, Contains}
+use Rattle.std.proofs.Common.{◌≡◌, ℕ, zero, suc, ◌+◌, ◌≤◌, ◌<◌, Bool, true, false, cond, List, [], ◌∷◌, length, IsTrue, Option, Some, None, Ok, Err, refl, sym, ap, ◌∙◌, subst, arith, get_or, slice_get, take}
 use Rattle.std.proofs.lemmas.Option.{slice_get_within, get_or_from_slice_get}
 use Rattle.clv_place.specs.declared.stop.Offence.{Offence}
 use Rattle.clv_io.specs.Files.{FilesState}
@@ -24,7 +24,6 @@ use Rattle.clv_engine.specs.Command.{IsText, IsUnchanged, IsCompiled, file_text,
 use Rattle.clv_engine.specs.RunCommand.{launch_line_text, launch_rule_text, trap_text, spent_text, Reads, whole, over, IsFaulty, is_broken, is_long, IsRefused, is_out, is_over, HoldBuffers, IsReady, IsLeastGiven, is_marked, stores_from, IsRun, IsLoaded, RunComesTo, absent, launch_absent, refused, faulty, seeded, buffer_absent, buffer_over, misfit, too_much, trapped, spent, ran, unstored}
 use Rattle.run_machine.specs.Machines.{trap_by}
 use Rattle.clv_engine.specs.RunSteps.{Since, LoadsAs, LoadAnswers, BuffersLoad, BuffersAnswer, marks, IsComplete, ComesOut, stores_of, StoresComeTo, all_stored, one_failed, AreBuffers, JudgesTo, PlansTo, IsPlanned, GoesTo, BuffersGoTo, IsRunnable, OutcomeOf}
-use Rattle.clv_engine.proofs.TopSteps.{told_later}
 use Rattle.clv_engine.proofs.Loading.{unchanged_then, text_before, absent_before, large_before, HoldBuffers-length}
 use Rattle.clv_engine.proofs.Storing.{stores_later, cut_stores_later}
 use Rattle.clv_engine.proofs.ScheduledFacts.{served}

@@ -6,7 +6,6 @@ pub mod Forming
 pub mod Interface
 pub mod KernelRows
 pub mod LaunchWorlds
-pub mod Lexing
 pub mod Promises
 pub mod RunCommand
 pub mod RunSteps

@@ -26,7 +26,7 @@ use Rattle.clv_engine.specs.declared.load.Buffers.{Buffers as LoadedBuffers}
 use Rattle.clv_engine.specs.declared.load.Buffers.TheVariants as buffers
 use Rattle.clv_engine.specs.declared.report.Report.{Report}
 use Rattle.clv_engine.specs.Command.{IsCompiled, IsText, IsUnchanged, NotLoaded, file_text}
-use Rattle.clv_engine.specs.RunCommand.{Reads, IsReady, IsLoaded, HoldBuffers, ModuleRuns, TakesTooMuch, IsRun, HoldsStores, HoldsStoresCut, is_marked, done_text, RunComesTo}
+use Rattle.clv_engine.specs.RunCommand.{Reads, IsReady, HoldBuffers, ModuleRuns, TakesTooMuch, HoldsStores, HoldsStoresCut, is_marked, done_text, RunComesTo}
 
 -- No file has changed since, and steady files tell what they hold.
 pub record Since (old mid : FilesState) : Type 0 where

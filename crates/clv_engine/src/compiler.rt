@@ -10,9 +10,9 @@ use clv_place::{Stop, Text};
 use spv_binary::write;
 use std::alloc::Global;
 
-/// The bytes of the module of a text: the little-endian words of SPIR-V 1.3. A text over 1 MiB is
-/// refused by code 105, and one that is no kernel of the form that is compiled so far by code 900,
-/// both at 1:1.
+/// The bytes of the module of a text: the little-endian words of SPIR-V 1.3. A text is refused at its
+/// first offence: of the lexer, else of the expansion. One that is no kernel of the form that is compiled
+/// so far is refused by code 900 at 1:1.
 #[tactic(auto, using(crate::proofs::Compiled::compile_steps))]
 pub fn compile(alloc: Global, text: &[u8]) -> Result<Text, Stop>
     ensures compiled { IfOk result (IsCompiled text.now) }

@@ -1,63 +1,57 @@
 //! From a text to the kernel that it is.
 
 ghost use Rattle.std.specs.Prelude.{◌≡◌, IfOk, IfErr};
-ghost use Rattle.clv_engine.specs.FirstForm.{IsIn, IsStopOf};
+ghost use Rattle.clv_engine.specs.FirstForm.{IsIn, IsStopOf, InOrOut, OneOffence};
 
 use crate::form::{Kernel, form};
-use crate::token::lex;
+use cl_lexer::lex;
+use cl_pre::expand;
 use clv_place::{Offence, Place, Stop};
 use std::alloc::Global;
 
-/// The most bytes that a text may have: 1 MiB.
-pub const MAX_TEXT: usize = 1_048_576;
-
-/// The kernel that a text is. An offence has code 105 where the text is over 1 MiB, and else code 900:
-/// the text is no such kernel. Either stands at 1:1.
+/// The kernel that a text is, once its tokens are expanded. The text is refused at its first offence: of
+/// the lexer, else of the expansion. One that is no such kernel is refused by code 900 at 1:1.
 #[tactic(auto, using(crate::proofs::Refusals::refusals))]
 pub fn first_form(alloc: Global, text: &[u8]) -> Result<Kernel, Stop>
     ensures ok { IfOk result (λ k. IsIn text.now k) }
     ensures out { IfErr result (IsStopOf text.now) }
 {
-    if text.len() > MAX_TEXT {
-        return Err(Stop::Out(refusal(105)));
-    }
-    let Some(tokens) = lex(alloc, text)? else {
-        return Err(Stop::Out(refusal(900)));
-    };
-    match form(alloc, tokens.as_slice())? {
+    let tokens = lex(alloc, text)?;
+    let expanded = expand(alloc, &tokens)?;
+    match form(alloc, expanded.list.as_slice())? {
         Some(kernel) => Ok(kernel),
-        None => Err(Stop::Out(refusal(900))),
+        None => Err(Stop::Out(not_built())),
     }
 }
 
-// A refusal of the whole text.
-fn refusal(code: u16) -> Offence
-    ensures code { result.code ≡ code }
+// The refusal of a text that is no kernel of the form.
+fn not_built() -> Offence
+    ensures code { result.code ≡ 900 }
     ensures line { result.place.line ≡ 1 }
     ensures col { result.place.col ≡ 1 }
 {
     Offence {
-        code,
+        code: 900,
         place: Place { line: 1, col: 1 },
     }
+}
+
+/// A text is a kernel or has one offence, and never both.
+pub fn one_verdict()
+    ensures no_both { InOrOut }
+    ensures one { OneOffence }
+{
+    cl_lexer::one_verdict();
+    cl_pre::one_verdict();
 }
 
 #[cfg(test)]
 mod tests {
     use super::*;
     use crate::form::{MAX_TERMS, Term};
+    use cl_lexer::MAX_TEXT;
     use std::alloc::AllocError;
     use std::test::Fail;
-
-    const REFUSED: Stop = Stop::Out(Offence {
-        code: 900,
-        place: Place { line: 1, col: 1 },
-    });
-
-    const TOO_LONG: Stop = Stop::Out(Offence {
-        code: 105,
-        place: Place { line: 1, col: 1 },
-    });
 
     // A kernel whose sum is a number of zeros, and then blanks.
     fn zeros(alloc: Global, terms: usize, blanks: usize) -> Result<Vec<u8>, AllocError> {
@@ -73,12 +67,19 @@ mod tests {
         Ok(text)
     }
 
+    fn refused(code: u16, line: u32, col: u32) -> Option<Stop> {
+        Some(Stop::Out(Offence {
+            code,
+            place: Place { line, col },
+        }))
+    }
+
     #[test]
     fn reads_kernels(rt: HostRuntime) -> Result<(), Fail> {
         let one: &[Term] = &[Term::GlobalId];
         let two: &[Term] = &[Term::Literal(2147483647), Term::GlobalId];
         let three: &[Term] = &[Term::GlobalId, Term::Literal(0), Term::Literal(10)];
-        let table: [(&[u8], u8, u8, &[Term]); 5] = [
+        let table: [(&[u8], u8, u8, &[Term]); 8] = [
             (
                 b"__kernel void k(__global uint *a){a[get_global_id(0)]=get_global_id(0);}",
                 b'k',
@@ -97,17 +98,37 @@ mod tests {
                 b'b',
                 three,
             ),
+            // tabs, comments, joined lines, and other spellings of the numbers
             (
-                b"__kernel void a(__global uint*z){z[get_global_id(0)]=get_global_id\n(0)+0+10;}\n",
+                b"__kernel\tvoid/**/a(__global uint*z)\r\n{z[get_global_id(0x0)]=get_global_\\\nid\n(00)+0+012;} // end\n",
                 b'a',
                 b'z',
                 three,
             ),
             (
-                b"__kernel\n\nvoid v(__global uint*u){u[get_global_id(0)]=2147483647\n+\nget_global_id(0);}",
+                b"__kernel void v(__global uint*u){u[get_global_id(0)]=0x7FFFFFFF/* + */+\tget_global_id(0);}",
                 b'v',
                 b'u',
                 two,
+            ),
+            // macros and groups that are left out
+            (
+                b"#define ID get_global_id(0)\n#define SUM(x, y) x + y\n__kernel void k(__global uint *a) {\n\ta[ID] = SUM(ID, 0) + 10;\n}\n",
+                b'k',
+                b'a',
+                three,
+            ),
+            (
+                b"#if 0\nno unit\n#endif\n__kernel void k(__global uint*a){a[get_global_id(0)]=get_global_id(0);}",
+                b'k',
+                b'a',
+                one,
+            ),
+            (
+                b"#define k m\n#define a(x) n\n__kernel void k(__global uint*a(1)){a()[get_global_id(0)]=get_global_id(0);}",
+                b'm',
+                b'n',
+                one,
             ),
         ];
         for (text, name, argument, terms) in table {
@@ -120,35 +141,78 @@ mod tests {
     }
 
     #[test]
-    fn refuses_other_texts(rt: HostRuntime) {
-        let table: [&[u8]; 24] = [
+    fn refuses_texts_at_their_first_offence(rt: HostRuntime) {
+        let table: [(&[u8], u16, u32, u32); 7] = [
+            (b"/* open", 102, 1, 1),
+            (
+                b"__kernel void k(__global uint*a){a[get_global_id(0)]=1 @;}",
+                101,
+                1,
+                56,
+            ),
+            (
+                b"__kernel void k(__global uint*a){a[get_global_id(0)]=18446744073709551616;}",
+                103,
+                1,
+                54,
+            ),
+            (
+                b"__kernel void k(__global uint*a){a[get_global_id(0)]=1;}\n#error no\n",
+                118,
+                2,
+                1,
+            ),
+            (
+                b"#define F(x) x\n__kernel void k(__global uint*a){a[get_global_id(0)]=F(1,2);}",
+                114,
+                2,
+                54,
+            ),
+            (b"int x\n#error no\n", 118, 2, 1),
+            // an offence of the lexer comes first, wherever it stands
+            (b"int x\n#error no\n@", 101, 3, 1),
+        ];
+        for (text, code, line, col) in table {
+            assert_eq!(rt;
+                first_form(rt.alloc(), text).err(),
+                refused(code, line, col)
+            );
+        }
+    }
+
+    #[test]
+    fn refuses_texts_of_another_form(rt: HostRuntime) {
+        let table: [&[u8]; 27] = [
             b"",
             b" \n",
+            b"int x",
             b"__kernel void k(__global uint*a){a[get_global_id(0)]=0}",
             b"__kernel void k(__global uint*a){a[get_global_id(0)]=0;",
             b"__kernel void k(__global uint*a){a[get_global_id(0)]=0;};",
-            b"__kernel\tvoid k(__global uint*a){a[get_global_id(0)]=0;}",
-            b"__kernel void k(__global uint*a){a[get_global_id(0)]=0;}\r\n",
-            b"__kernel void k(__global uint*a){a[get_global_id(0)]=0x1;}",
-            b"__kernel void k(__global uint*a){a[get_global_id(0)]=01;}",
-            b"__kernel void k(__global uint*a){a[get_global_id(0)]=1u;}",
-            b"__kernel void k(__global uint*a){a[get_global_id(0)]=2147483648;}",
-            b"__kernel void k(__global uint*a){a[get_global_id(0)]=4294967296;}",
             b"__kernel void k(__global uint*a){a[get_global_id(0)]=;}",
             b"__kernel void k(__global uint*a){a[get_global_id(0)]=0+;}",
-            b"__kernel void k(__global uint*a){a[get_global_id(0)]=+0;}",
             b"__kernel void k(__global uint*a){a[get_global_id(0)]=0 0;}",
+            b"__kernel voidk(__global uint*a){a[get_global_id(0)]=0;}",
+            b"__kernel void k(__global int*a){\na[0]=zz;\na[1]=2\n}\n",
+            b"__kernel void k(__global float*a){a[0]=1;}",
+            b"__kernel void k(__global uint*a){a[get_global_id(0)]=1u;}",
+            b"__kernel void k(__global uint*a){a[get_global_id(0)]=2147483648;}",
+            b"__kernel void k(__global uint*a){a[get_global_id(0)]=0x80000000;}",
+            b"__kernel void k(__global uint*a){a[get_global_id(0)]=4294967296;}",
+            b"__kernel void k(__global uint*a){a[get_global_id(0)]='a';}",
+            b"__kernel void k(__global uint*a){a[get_global_id(0)]=+0;}",
+            b"__kernel void k(__global uint*a){a[get_global_id(0)]=(0);}",
             b"__kernel void k(__global uint*a){a[get_global_id(0)]=get_global_id(1);}",
             b"__kernel void k(__global uint*a){a[get_global_id(1)]=0;}",
             b"__kernel void a(__global uint*a){a[get_global_id(0)]=0;}",
             b"__kernel void k(__global uint*a){b[get_global_id(0)]=0;}",
             b"__kernel void K(__global uint*a){a[get_global_id(0)]=0;}",
             b"__kernel void kk(__global uint*a){a[get_global_id(0)]=0;}",
-            b"__kernel voidk(__global uint*a){a[get_global_id(0)]=0;}",
             b"kernel void k(__global uint*a){a[get_global_id(0)]=0;}",
+            b"__kernel __attribute__((vec_type_hint(int4))) void k(__global uint*a){a[get_global_id(0)]=0;}",
         ];
         for text in table {
-            assert_eq!(rt; first_form(rt.alloc(), text).err(), Some(REFUSED));
+            assert_eq!(rt; first_form(rt.alloc(), text).err(), refused(900, 1, 1));
         }
     }
 
@@ -157,12 +221,12 @@ mod tests {
         let most = zeros(rt.alloc(), MAX_TERMS, 0)?;
         assert_eq!(rt; first_form(rt.alloc(), &most)?.terms.len(), MAX_TERMS);
         let more = zeros(rt.alloc(), MAX_TERMS + 1, 0)?;
-        assert_eq!(rt; first_form(rt.alloc(), &more).err(), Some(REFUSED));
+        assert_eq!(rt; first_form(rt.alloc(), &more).err(), refused(900, 1, 1));
         let long = zeros(rt.alloc(), 1, MAX_TEXT - 56)?;
         assert_eq!(rt; long.len(), MAX_TEXT);
         assert_eq!(rt; first_form(rt.alloc(), &long)?.terms.len(), 1);
         let longer = zeros(rt.alloc(), 1, MAX_TEXT - 55)?;
-        assert_eq!(rt; first_form(rt.alloc(), &longer).err(), Some(TOO_LONG));
+        assert_eq!(rt; first_form(rt.alloc(), &longer).err(), refused(105, 1, 1));
         Ok(())
     }
 }

@@ -16,8 +16,8 @@ mod run_file;
 mod run_module;
 #[cfg(test)]
 mod tests;
-mod token;
 mod top;
 
 pub use compiler::compile;
+pub use front::one_verdict;
 pub use top::clv_top;

@@ -7,6 +7,7 @@ ghost use Rattle.clv_engine.specs.TopCall.{CommandComesTo, Prints, Answers, IsDe
 
 use crate::command::{Command, command_of};
 use crate::compiler::compile;
+use crate::front::one_verdict;
 use crate::report::{Report, report_file, report_module, report_refused};
 use crate::run_file::run_file;
 use clv_io::{Files, LoadFault, Sink};
@@ -109,10 +110,10 @@ fn answer_words<F: Files, O: Sink>(
 /// where the words are no command; 3 where a file could not be loaded or stored; 4 for want of memory; 6
 /// where the launch breaks a rule; 7 where the run traps; 8 where its steps are spent; 9 where the line
 /// could not be printed.
-#[tactic(auto, using(crate::proofs::Decided::decided))]
 pub fn clv_top<F: Files, O: Sink>(alloc: Global, words: &[String], files: &mut F, out: &mut O) -> u8
     ensures answer { Answers (map string_bytes words.now) (F.state files.old) (F.state files.new) (O.state out.old) (O.state out.new) result }
     ensures decided { IsDecided (map string_bytes words.now) (F.state files.old) (F.state files.new) (O.state out.old) (O.state out.new) result }
 {
+    one_verdict();
     answer_words(alloc, words, files, out)
 }
