@@ -254,12 +254,14 @@ fn wide(alloc: Global, last: &str) -> Result<String, AllocError> {
     Ok(text)
 }
 
+// A refusal at a place.
+fn found(code: u16, line: u32, col: u32) -> Option<Stop> {
+    let place = Place { line, col };
+    Some(Stop::Out(Offence { code, place }))
+}
+
 #[test]
 fn keeps_to_the_limits(rt: HostRuntime) -> Result<(), Fail> {
-    let found = |code, line, col| {
-        let place = Place { line, col };
-        Some(Stop::Out(Offence { code, place }))
-    };
     // 64 names are hidden from the last token, and 65 are too many
     let text = chain(rt.alloc(), 64, 1, " d0")?;
     assert_eq!(rt; expanded(rt.alloc(), text.as_bytes())?.list.len(), 1);
