@@ -1,0 +1,104 @@
+#!/usr/bin/env bash
+# Times the judging of texts, which is tokens and macros so far, at 256 KiB, 512 KiB and 1 MiB, beside what clang
+# takes for the syntax and types of the same text. It stands outside the gate: times depend on the machine, so
+# only ratios within one run mean anything. Each time is the least of five runs of the whole process, less that
+# of a text of a few bytes. The texts are ordinary kernels, which are refused by code 900 once they are judged.
+set -u
+cd "$(dirname "$0")/.." || exit 1
+program=crates/clv/out/clv
+for tool in python3 clang; do
+  command -v "$tool" >/dev/null || { echo "skipped: no $tool"; exit 0; }
+done
+[ -x "$program" ] || { echo "skipped: no $program (README.md says how to build it)"; exit 0; }
+folder=$(mktemp -d)
+trap 'rm -rf "$folder"' EXIT
+exec python3 - "$program" "$folder" <<'PYTHON'
+import subprocess
+import sys
+import time
+
+program, folder = sys.argv[1:]
+
+KERNEL = """
+/* Sums rows of a matrix, with a weight for each column, and keeps the greatest. */
+#define WEIGHT_%(n)d(x) ((x) * 3 + %(n)d)
+typedef struct { int sum; int4 parts; uint count[4]; } row_%(n)d;
+
+int greatest_%(n)d(int a, int b) {
+    return a < b ? b : a; // no branches
+}
+
+__kernel void rows_%(n)d(__global const int *matrix, __global int *sums, int width, __local int *scratch) {
+    uint row = get_global_id(0), lane = get_local_id(0);
+    int sum = 0, most = INT_MIN;
+    for (int column = 0; column < width; column++) {
+        int value = matrix[row * width + column];
+        if ((value & 1) != 0)
+            sum += WEIGHT_%(n)d(value);
+        else
+            sum -= value >> 2;
+        most = greatest_%(n)d(most, value);
+    }
+    scratch[lane] = sum;
+    barrier(CLK_LOCAL_MEM_FENCE);
+    switch (lane %% 4u) {
+    case 0: sum += scratch[0]; break;
+    case 1: case 2: sum ^= 0x5a5au; break;
+    default: sum = ~sum;
+    }
+    int4 v = (int4)(sum, most, 1, 2);
+    do { v.x += v.y * 2; sum--; } while (sum > 100 && v.x < 1000);
+    sums[row] = v.x + (int)sizeof(row_%(n)d) + (sum << 3);
+}
+"""
+
+
+def text(size):
+    parts, length = [], 0
+    while True:
+        part = KERNEL % {"n": len(parts)}
+        if length + len(part) > size:
+            break
+        parts.append(part)
+        length += len(part)
+    name = "%s/%d.cl" % (folder, size)
+    with open(name, "w") as file:
+        file.write("".join(parts))
+    return name
+
+
+def least(wanted, *command):
+    """The least of five times, in seconds."""
+    times = []
+    for _ in range(5):
+        start = time.perf_counter()
+        done = subprocess.run(command, stdout=subprocess.PIPE, stderr=subprocess.PIPE, text=True)
+        times.append(time.perf_counter() - start)
+        if done.returncode != wanted:
+            sys.exit("failed: %s\n%s%s" % (" ".join(command), done.stdout, done.stderr))
+    return min(times)
+
+
+def ours(name):
+    return least(1, program, "compile", name, folder + "/out.spv")
+
+
+def theirs(name):
+    return least(0, "clang", "-cl-std=CL1.2", "-fsyntax-only", "-x", "cl", name)
+
+
+small = folder + "/small.cl"
+with open(small, "w") as file:
+    file.write("__kernel void k(__global int*a){}")
+base, other_base = ours(small), theirs(small)
+print("%8s %9s %9s %8s" % ("bytes", "clv s", "clang s", "ratio"))
+rows = []
+for size in (1 << 18, 1 << 19, 1 << 20):
+    name = text(size)
+    mine, other = ours(name) - base, theirs(name) - other_base
+    rows.append(mine)
+    print("%8d %9.3f %9.3f %8.2f" % (size, mine, other, mine / other))
+print("512 KiB take %.2f times 256 KiB, and 1 MiB %.2f times 512 KiB" % (rows[1] / rows[0], rows[2] / rows[1]))
+if mine > other:
+    sys.exit("the text of 1 MiB takes longer than clang")
+PYTHON
