@@ -1,0 +1,16 @@
+pub mod DeclarationSymbols
+pub mod ExpressionTrees
+pub mod Expressions
+pub mod Items
+pub mod Lexemes
+pub mod Lookup
+pub mod Names
+pub mod Parts
+pub mod StatementSymbols
+pub mod StatementTrees
+pub mod Statements
+pub mod Symbols
+pub mod Terminals
+pub mod Units
+pub mod Weights
+pub mod Words
