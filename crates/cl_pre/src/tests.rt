@@ -260,29 +260,50 @@ fn found(code: u16, line: u32, col: u32) -> Option<Stop> {
     Some(Stop::Out(Offence { code, place }))
 }
 
+// So many macros, each of which stands for the next so many times, a text behind them, and its first offence.
+type Chained<'a> = (usize, usize, &'a str, u16, u32, u32);
+
+const CHAINED: [Chained<'static>; 7] = [
+    // the last token has 65 names hidden from it
+    (65, 1, " d0", 123, 66, 2),
+    (65, 1, "d1 +\n   1 + d0 x", 123, 67, 8),
+    (64, 1, "d0 +\n#define e (d0)\n f e", 123, 67, 4),
+    // 256 tokens in a condition, which is malformed, and more of them
+    (8, 2, "#define d8 -\n#if d0\n#endif", 119, 10, 1),
+    (8, 2, "#define d8 -\n  #if d0 1\n#endif", 121, 10, 3),
+    (8, 2, "a\n #if 1\n#if d0/0\n#endif\n#endif", 121, 11, 1),
+    (8, 2, "#if 0\n#elif (d0\n#endif", 121, 10, 1),
+];
+
+// A text behind a macro that stands for its argument 512 times, and the place of the token that is one too many.
+type Widened<'a> = (&'a str, u32, u32);
+
+const WIDENED: [Widened<'static>; 3] = [
+    ("f(f(1)) x", 2, 9),
+    ("  x\n + f(f(1))", 3, 4),
+    ("#define g f(f(1)) x\n y;\n  (g", 4, 4),
+];
+
 #[test]
 fn keeps_to_the_limits(rt: HostRuntime) -> Result<(), Fail> {
-    // 64 names are hidden from the last token, and 65 are too many
+    for (length, times, last, code, line, col) in CHAINED {
+        let text = chain(rt.alloc(), length, times, last)?;
+        let stop = expanded(rt.alloc(), text.as_bytes()).err();
+        assert_eq!(rt; stop, found(code, line, col), "{last:?}");
+    }
+    for (last, line, col) in WIDENED {
+        let text = wide(rt.alloc(), last)?;
+        let stop = expanded(rt.alloc(), text.as_bytes()).err();
+        assert_eq!(rt; stop, found(124, line, col), "{last:?}");
+    }
+    // 64 names are hidden from the last token
     let text = chain(rt.alloc(), 64, 1, " d0")?;
     assert_eq!(rt; expanded(rt.alloc(), text.as_bytes())?.list.len(), 1);
-    let text = chain(rt.alloc(), 65, 1, " d0")?;
-    let stop = expanded(rt.alloc(), text.as_bytes()).err();
-    assert_eq!(rt; stop, found(123, 66, 2));
-    // a condition may have 256 tokens, of which 257 are one more
-    let text = chain(rt.alloc(), 8, 2, "#define d8 -\n#if d0\n#endif")?;
-    let stop = expanded(rt.alloc(), text.as_bytes()).err();
-    assert_eq!(rt; stop, found(119, 10, 1));
-    let text = chain(rt.alloc(), 8, 2, "#define d8 -\n  #if d0 1\n#endif")?;
-    let stop = expanded(rt.alloc(), text.as_bytes()).err();
-    assert_eq!(rt; stop, found(121, 10, 3));
-    // the most tokens, and one more: 512 times 512
+    // the most tokens: 512 times 512
     let text = wide(rt.alloc(), "f(f(1))")?;
     assert_eq!(rt;
         expanded(rt.alloc(), text.as_bytes())?.list.len(),
         MAX_RESULT
     );
-    let text = wide(rt.alloc(), "f(f(1)) x")?;
-    let stop = expanded(rt.alloc(), text.as_bytes()).err();
-    assert_eq!(rt; stop, found(124, 2, 9));
     Ok(())
 }
