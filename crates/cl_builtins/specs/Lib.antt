@@ -1,0 +1,5 @@
+pub mod Found
+pub mod Forms
+pub mod Kinds
+pub mod Names
+pub mod Tables

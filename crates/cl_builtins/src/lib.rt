@@ -1,0 +1,16 @@
+//! The tool wall: the names of the built-in functions, which types of arguments each takes, and what it
+//! answers (OpenCL C 1.2, 6.12).
+#![tactic(auto)]
+
+pub mod call;
+pub mod form;
+pub mod kind;
+pub mod name;
+
+pub use call::{FindStop, Found, find};
+pub use form::Form;
+pub use kind::{Gentype, Kind};
+pub use name::Rule;
+
+#[cfg(test)]
+mod tests;
