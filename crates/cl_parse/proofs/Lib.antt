@@ -1,0 +1,15 @@
+pub mod AttributeSteps
+pub mod Completions
+pub mod Declared
+pub mod DeclaredNames
+pub mod Externals
+pub mod FWords
+pub mod Parameters
+pub mod Places
+pub mod Starting
+pub mod Typedefs
+pub mod UnitProgress
+pub mod UnitSteps
+pub mod UnitVerdicts
+pub mod Verdicts
+pub mod Written

@@ -1,0 +1,10 @@
+pub mod Chains
+pub mod Clauses
+pub mod Lists
+pub mod Looking
+pub mod Moves
+pub mod Sections
+pub mod Seen
+pub mod Specs
+pub mod Statements
+pub mod TreeParts
