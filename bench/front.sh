@@ -1,8 +1,9 @@
 #!/usr/bin/env bash
-# Times the judging of texts, which is tokens and macros so far, at 256 KiB, 512 KiB and 1 MiB, beside what clang
-# takes for the syntax and types of the same text. It stands outside the gate: times depend on the machine, so
-# only ratios within one run mean anything. Each time is the least of five runs of the whole process, less that
-# of a text of a few bytes. The texts are ordinary kernels, which are refused by code 900 once they are judged.
+# Times the judging of texts, which is tokens, macros and grammar so far, at 256 KiB, 512 KiB and 1 MiB, beside
+# what clang takes for the syntax and types of the same text. It stands outside the gate: times depend on the
+# machine, so only ratios within one run mean anything. Each time is the least of five runs of the whole process,
+# less that of a text of a few bytes. The texts are ordinary kernels, which are refused by code 900 once they are
+# judged.
 set -u
 cd "$(dirname "$0")/.." || exit 1
 program=crates/clv/out/clv

@@ -6,7 +6,10 @@ use Rattle.clv_engine.specs.declared.form.Kernel.{Kernel}
 use Rattle.cl_lexer.specs.declared.token.Tokens.{Tokens}
 use Rattle.cl_lexer.specs.Tokens.{Lexes, too_large, refused, read as reads, OneVerdict as LexedOnce}
 use Rattle.cl_pre.specs.Expansion.{Expansion, OneVerdict as ExpandedOnce}
-use Rattle.clv_engine.specs.FirstForm.{kinds_of, IsRead, IsIn, IsNotBuilt, lexing, expanding, forming, InOrOut, OneOffence}
+use Rattle.cl_ast.specs.declared.declaration.Ast.{Ast}
+use Rattle.cl_grammar.specs.Units.{Judges}
+use Rattle.cl_parse.specs.Verdicts.{OneOffence as JudgedOnce}
+use Rattle.clv_engine.specs.FirstForm.{kinds_of, IsRead, IsIn, IsNotBuilt, lexing, expanding, parsing, forming, InOrOut, OneOffence}
 use Rattle.clv_engine.specs.Command.{IsText}
 
 pub some_is : (a b : List ℕ) → Some a ≡ Some b → a ≡ b
@@ -14,7 +17,7 @@ some_is a b e = cc
 
 -- ---- the verdicts of the phases
 
-module _ (lexed_once : LexedOnce) (expanded_once : ExpandedOnce) where
+module _ (lexed_once : LexedOnce) (expanded_once : ExpandedOnce) (judged_once : JudgedOnce) where
   same_tokens : (text : List ℕ) (a b : Tokens) → Lexes text (Ok a) → Lexes text (Ok b) → a ≡ b
   same_tokens text a b l m = let e = lexed_once text (Ok a) (Ok b) l m in cc
 
@@ -29,10 +32,15 @@ module _ (lexed_once : LexedOnce) (expanded_once : ExpandedOnce) where
   same_expanded : (text : List ℕ) (a b c d : Tokens) → IsRead text a c → IsRead text b d → c ≡ d
   same_expanded text a b c d r q = let g = expanded_once b (Ok c) (Ok d) (subst (λ z. Expansion z (Ok c)) (same_tokens text a b r.lexes q.lexes) r.expands) q.expands in cc
 
+  -- a text that is a unit has no offence of the grammar
+  grammar_offends : (text : List ℕ) (a b c d : Tokens) (t : Ast) (o : Offence) → IsRead text a c → IsRead text b d → Judges c (Ok t) → Judges d (Err o) → ⊥
+  grammar_offends text a b c d t o r q j k = let g = judged_once d o (Ok t) k (subst (λ z. Judges z (Ok t)) (same_expanded text a b c d r q) j) in cc
+
   -- no text is in and out
   pub in_out : InOrOut
   in_out text k o i (lexing l) = lexer_offends text i.tokens o i.is_read.lexes l
   in_out text k o i (expanding a l e) = expansion_offends text i.tokens a i.expanded o i.is_read l e
+  in_out text k o i (parsing a c r j) = grammar_offends text i.tokens a i.expanded c i.tree o i.is_read r i.parses j
   in_out text k o i (forming n) =
       let e = same_expanded text i.tokens n.tokens i.expanded n.expanded i.is_read n.is_read in
       n.no_kernel k i.kernel (ap (λ z. kinds_of z.list) (sym e) ∙ i.spelled)
@@ -48,12 +56,19 @@ module _ (lexed_once : LexedOnce) (expanded_once : ExpandedOnce) where
   pub one_offence : OneOffence
   one_offence text o p (lexing l) (lexing m) = let e = lexed_once text (Err o) (Err p) l m in cc
   one_offence text o p (lexing l) (expanding b m f) = absurd (lexer_offends text b o m l)
+  one_offence text o p (lexing l) (parsing b d q k) = absurd (lexer_offends text b o q.lexes l)
   one_offence text o p (lexing l) (forming m) = absurd (lexer_offends text m.tokens o m.is_read.lexes l)
   one_offence text o p (expanding a l e) (lexing m) = absurd (lexer_offends text a p l m)
   one_offence text o p (expanding a l e) (expanding b m f) = let g = expanded_once b (Err o) (Err p) (subst (λ z. Expansion z (Err o)) (same_tokens text a b l m) e) f in cc
+  one_offence text o p (expanding a l e) (parsing b d q k) = absurd (expansion_offends text b a d o q l e)
   one_offence text o p (expanding a l e) (forming m) = absurd (expansion_offends text m.tokens a m.expanded o m.is_read l e)
+  one_offence text o p (parsing a c r j) (lexing m) = absurd (lexer_offends text a p r.lexes m)
+  one_offence text o p (parsing a c r j) (expanding b m f) = absurd (expansion_offends text a b c p r m f)
+  one_offence text o p (parsing a c r j) (parsing b d q k) = let g = judged_once d o (Err p) (subst (λ z. Judges z (Err o)) (same_expanded text a b c d r q) j) k in cc
+  one_offence text o p (parsing a c r j) (forming m) = absurd (grammar_offends text m.tokens a m.expanded c m.tree o m.is_read r m.parses j)
   one_offence text o p (forming n) (lexing m) = absurd (lexer_offends text n.tokens p n.is_read.lexes m)
   one_offence text o p (forming n) (expanding b m f) = absurd (expansion_offends text n.tokens b n.expanded p n.is_read m f)
+  one_offence text o p (forming n) (parsing b d q k) = absurd (grammar_offends text n.tokens b n.expanded d n.tree p n.is_read q n.parses k)
   one_offence text o p (forming n) (forming m) = same_refusal text o p n m
 
 -- a text that is lexed has at most 1 MiB

@@ -9,16 +9,19 @@ use Rattle.cl_lexer.specs.Answers.{AnswersStop as LexerStop}
 use Rattle.cl_lexer.specs.Tokens.{Lexes}
 use Rattle.cl_pre.specs.Answers.{AnswersStop}
 use Rattle.cl_pre.specs.Expansion.{Expansion}
+use Rattle.cl_ast.specs.declared.declaration.Ast.{Ast}
+use Rattle.cl_grammar.specs.Units.{Judges}
+use Rattle.cl_parse.specs.Verdicts.{AnswersStop as ParserStop}
 use Rattle.clv_engine.specs.declared.form.Kernel.{Kernel}
-use Rattle.clv_engine.specs.FirstForm.{kinds_of, kernel_tokens, IsKernel, IsRead, IsIn, IsOut, lexing, expanding, forming, IsStopOf}
+use Rattle.clv_engine.specs.FirstForm.{kinds_of, kernel_tokens, IsKernel, IsRead, IsIn, IsOut, lexing, expanding, parsing, forming, IsStopOf}
 use Rattle.clv_engine.specs.Forming.{IsNoKernel}
 
 -- a text with its tokens and what they expand to
 pub read_of : (text : List ℕ) (tokens expanded : Tokens) → Lexes text (Ok tokens) → Expansion tokens (Ok expanded) → IsRead text tokens expanded
 read_of text tokens expanded l e = record { lexes = l; expands = e }
 
-pub is_in : (text : List ℕ) (tokens expanded : Tokens) (k : Kernel) → IsRead text tokens expanded → IsKernel k → kinds_of expanded.list ≡ kernel_tokens k → IsIn text k
-is_in text tokens expanded k r kernel e = record { tokens = tokens; expanded = expanded; is_read = r; kernel = kernel; spelled = e }
+pub is_in : (text : List ℕ) (tokens expanded : Tokens) (tree : Ast) (k : Kernel) → IsRead text tokens expanded → Judges expanded (Ok tree) → IsKernel k → kinds_of expanded.list ≡ kernel_tokens k → IsIn text k
+is_in text tokens expanded tree k r j kernel e = record { tokens = tokens; expanded = expanded; is_read = r; tree = tree; parses = j; kernel = kernel; spelled = e }
 
 pub lexer_stops : (text : List ℕ) (s : Stop) → LexerStop s (Lexes text) → IsStopOf text s
 lexer_stops text (Out o) h = lexing h
@@ -28,7 +31,11 @@ pub expansion_stops : (text : List ℕ) (tokens : Tokens) (s : Stop) → Lexes t
 expansion_stops text tokens (Out o) l h = expanding tokens l h
 expansion_stops text tokens NoMemory l h = tt
 
-pub not_built : (text : List ℕ) (tokens expanded : Tokens) (o : Offence) → IsRead text tokens expanded → IsNoKernel (kinds_of expanded.list) → o.code ≡ 900 → o.place.line ≡ 1 → o.place.col ≡ 1 → IsOut text o
-not_built text tokens expanded o r none code line col = forming (record { tokens = tokens; expanded = expanded; is_read = r; no_kernel = none; code = code; line = line; col = col })
+pub parser_stops : (text : List ℕ) (tokens expanded : Tokens) (s : Stop) → IsRead text tokens expanded → ParserStop s (Judges expanded) → IsStopOf text s
+parser_stops text tokens expanded (Out o) r h = parsing tokens expanded r h
+parser_stops text tokens expanded NoMemory r h = tt
 
-pub ruleset refusals = (read_of, is_in, lexer_stops, expansion_stops, not_built)
+pub not_built : (text : List ℕ) (tokens expanded : Tokens) (tree : Ast) (o : Offence) → IsRead text tokens expanded → Judges expanded (Ok tree) → IsNoKernel (kinds_of expanded.list) → o.code ≡ 900 → o.place.line ≡ 1 → o.place.col ≡ 1 → IsOut text o
+not_built text tokens expanded tree o r j none code line col = forming (record { tokens = tokens; expanded = expanded; is_read = r; tree = tree; parses = j; no_kernel = none; code = code; line = line; col = col })
+
+pub ruleset refusals = (read_of, is_in, lexer_stops, expansion_stops, parser_stops, not_built)

@@ -5,12 +5,14 @@ ghost use Rattle.clv_engine.specs.FirstForm.{IsIn, IsStopOf, InOrOut, OneOffence
 
 use crate::form::{Kernel, form};
 use cl_lexer::lex;
+use cl_parse::parse;
 use cl_pre::expand;
 use clv_place::{Offence, Place, Stop};
 use std::alloc::Global;
 
 /// The kernel that a text is, once its tokens are expanded. The text is refused at its first offence: of
-/// the lexer, else of the expansion. One that is no such kernel is refused by code 900 at 1:1.
+/// the lexer, else of the expansion, else of the grammar. A unit that is no such kernel is refused by code
+/// 900 at 1:1.
 #[tactic(auto, using(crate::proofs::Refusals::refusals))]
 pub fn first_form(alloc: Global, text: &[u8]) -> Result<Kernel, Stop>
     ensures ok { IfOk result (λ k. IsIn text.now k) }
@@ -18,13 +20,14 @@ pub fn first_form(alloc: Global, text: &[u8]) -> Result<Kernel, Stop>
 {
     let tokens = lex(alloc, text)?;
     let expanded = expand(alloc, &tokens)?;
+    let _tree = parse(alloc, &expanded)?;
     match form(alloc, expanded.list.as_slice())? {
         Some(kernel) => Ok(kernel),
         None => Err(Stop::Out(not_built())),
     }
 }
 
-// The refusal of a text that is no kernel of the form.
+// The refusal of a unit that is no kernel of the form.
 fn not_built() -> Offence
     ensures code { result.code ≡ 900 }
     ensures line { result.place.line ≡ 1 }
@@ -43,6 +46,7 @@ pub fn one_verdict()
 {
     cl_lexer::one_verdict();
     cl_pre::one_verdict();
+    cl_parse::one_offence();
 }
 
 #[cfg(test)]
@@ -142,7 +146,7 @@ mod tests {
 
     #[test]
     fn refuses_texts_at_their_first_offence(rt: HostRuntime) {
-        let table: [(&[u8], u16, u32, u32); 7] = [
+        let table: [(&[u8], u16, u32, u32); 25] = [
             (b"/* open", 102, 1, 1),
             (
                 b"__kernel void k(__global uint*a){a[get_global_id(0)]=1 @;}",
@@ -168,8 +172,88 @@ mod tests {
                 2,
                 54,
             ),
+            (b"", 201, 1, 1),
+            (b" \n", 201, 2, 1),
+            (b"int x", 201, 1, 6),
+            (
+                b"__kernel void k(__global uint*a){a[get_global_id(0)]=0}",
+                201,
+                1,
+                55,
+            ),
+            (
+                b"__kernel void k(__global uint*a){a[get_global_id(0)]=0;",
+                201,
+                1,
+                56,
+            ),
+            (
+                b"__kernel void k(__global uint*a){a[get_global_id(0)]=0;};",
+                201,
+                1,
+                57,
+            ),
+            (
+                b"__kernel void k(__global uint*a){a[get_global_id(0)]=;}",
+                201,
+                1,
+                54,
+            ),
+            (
+                b"__kernel void k(__global uint*a){a[get_global_id(0)]=0+;}",
+                201,
+                1,
+                56,
+            ),
+            (
+                b"__kernel void k(__global uint*a){a[get_global_id(0)]=0 0;}",
+                201,
+                1,
+                56,
+            ),
+            (
+                b"__kernel voidk(__global uint*a){a[get_global_id(0)]=0;}",
+                201,
+                1,
+                10,
+            ),
+            (
+                b"__kernel void k(__global int*a){\na[0]=zz;\na[1]=2\n}\n",
+                201,
+                4,
+                1,
+            ),
+            (b"__kernel void k(__global float*a){a[0]=1;}", 203, 1, 26),
+            (
+                b"__kernel __attribute__((vec_type_hint(float4))) void k(__global int*a){a[0]=1;}",
+                203,
+                1,
+                39,
+            ),
+            // tokens of a macro stand at its name
+            (b"#define p ( ;\n int f p", 201, 2, 8),
+            (b"#define real float\n\n  real x;", 203, 3, 3),
+            (
+                b"#define a - - - -\n#define b a a a a\n#define c b b b b\n#define d c c c c\nint x=d 1;",
+                202,
+                5,
+                7,
+            ),
+            (
+                b"#define a - - - -\n#define b a a a a\n#define c b b b b\n#define d c c c c\nint x=1;\n int y[2]={1,d 1};",
+                202,
+                6,
+                14,
+            ),
+            (
+                b"#define a - - - -\n#define b a a a a\n#define c b b b b\n#define d c c c c\nint x=c 1;\nint y={((c b b b 1+c c c 1))};",
+                202,
+                6,
+                24,
+            ),
+            // an offence of the expansion comes before one of the grammar, wherever it stands
             (b"int x\n#error no\n", 118, 2, 1),
-            // an offence of the lexer comes first, wherever it stands
+            // and one of the lexer before both
             (b"int x\n#error no\n@", 101, 3, 1),
         ];
         for (text, code, line, col) in table {
@@ -181,20 +265,8 @@ mod tests {
     }
 
     #[test]
-    fn refuses_texts_of_another_form(rt: HostRuntime) {
-        let table: [&[u8]; 27] = [
-            b"",
-            b" \n",
-            b"int x",
-            b"__kernel void k(__global uint*a){a[get_global_id(0)]=0}",
-            b"__kernel void k(__global uint*a){a[get_global_id(0)]=0;",
-            b"__kernel void k(__global uint*a){a[get_global_id(0)]=0;};",
-            b"__kernel void k(__global uint*a){a[get_global_id(0)]=;}",
-            b"__kernel void k(__global uint*a){a[get_global_id(0)]=0+;}",
-            b"__kernel void k(__global uint*a){a[get_global_id(0)]=0 0;}",
-            b"__kernel voidk(__global uint*a){a[get_global_id(0)]=0;}",
-            b"__kernel void k(__global int*a){\na[0]=zz;\na[1]=2\n}\n",
-            b"__kernel void k(__global float*a){a[0]=1;}",
+    fn refuses_units_of_another_form(rt: HostRuntime) {
+        let table: [&[u8]; 15] = [
             b"__kernel void k(__global uint*a){a[get_global_id(0)]=1u;}",
             b"__kernel void k(__global uint*a){a[get_global_id(0)]=2147483648;}",
             b"__kernel void k(__global uint*a){a[get_global_id(0)]=0x80000000;}",

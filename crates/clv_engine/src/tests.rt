@@ -53,13 +53,13 @@ fn answers_by_its_table(rt: HostRuntime) -> Result<(), Fail> {
             words: &["compile", "k.cl", "k.spv"],
             source: NO_SEMICOLON,
             status: 1,
-            printed: "source 900 1:1\n",
+            printed: "source 201 1:73\n",
         },
         Case {
             words: &["compile", "k.cl", "k.spv"],
             source: "",
             status: 1,
-            printed: "source 900 1:1\n",
+            printed: "source 201 1:1\n",
         },
         Case {
             words: &[],
@@ -351,7 +351,7 @@ fn refuses_launches(rt: HostRuntime) -> Result<(), Fail> {
         },
         Run {
             source: NO_SEMICOLON,
-            ..refused("kernel k\nglobal 0\n", 1, "source 900 1:1\n")
+            ..refused("kernel k\nglobal 0\n", 1, "source 201 1:73\n")
         },
     ];
     for case in &cases {
