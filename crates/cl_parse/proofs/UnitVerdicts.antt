@@ -13,7 +13,7 @@ use Rattle.cl_grammar.specs.Symbols.{D, Are}
 use Rattle.cl_grammar.specs.Items.{between, ReadAt, NoneAt}
 use Rattle.cl_grammar.specs.Lexemes.{lexeme_of, lexemes_of, end_lexeme, resolve, resolved}
 use Rattle.cl_grammar.specs.Units as unit
-use Rattle.cl_grammar.specs.Units.{IsUnit, UnitTree, IsSyntaxOffence, IsSentence, IsBegun, seen_as}
+use Rattle.cl_grammar.specs.Units.{IsUnit, IsSyntaxOffence, seen_as}
 use Rattle.cl_parse.specs.UnitReading.{UnitRead}
 use Rattle.cl_parse.proofs.UnitSteps.{AllStart, ExternalRead, ExternalOut, unit_out, unit_out_last}
 

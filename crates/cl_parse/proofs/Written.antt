@@ -13,7 +13,7 @@ use Rattle.cl_grammar.specs.Statements.{hints, is_vector_hint}
 use Rattle.cl_grammar.specs.StatementSymbols as y
 use Rattle.cl_grammar.specs.StatementSymbols.{StmtSym, is_stmt, IsBracketed}
 use Rattle.cl_grammar.specs.DeclarationSymbols as d
-use Rattle.cl_grammar.specs.DeclarationSymbols.{DeclSym, is_decl, IsBehindParam, IsNextParam, IsParams, IsFunction, IsBehindType, IsInAttribute, IsWords}
+use Rattle.cl_grammar.specs.DeclarationSymbols.{DeclSym, is_decl, IsBehindParam, IsParams, IsFunction}
 use Rattle.cl_grammar.specs.Symbols as s
 use Rattle.cl_grammar.specs.Symbols.{Sym, ExprSym, Class, Mark, Of, E, S, D, belongs, Is, IsE, Are, makes, has_example, has_some, have_some}
 

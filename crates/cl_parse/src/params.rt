@@ -65,7 +65,7 @@ fn has_name(param: &Param) -> bool
     }
 }
 
-// Whether both hold.
+// Whether both hold. A function, so that what its callers prove has no branch for `&&`.
 pub fn both(a: bool, b: bool) -> bool
     ensures { result ≡ (a && b) }
 {

@@ -8,11 +8,11 @@ use Rattle.cl_grammar.specs.declared.terminal.Terminal.TheVariants as t
 use Rattle.cl_grammar.specs.declared.stop.ExprStop.{ExprStop}
 use Rattle.cl_grammar.specs.declared.stop.ExprStop.TheVariants.{Out, NoMemory}
 use Rattle.cl_grammar.specs.Expressions as x
-use Rattle.cl_grammar.specs.Expressions.{IsA, IsUnary, IsCast, IsCond, IsAssign, IsPostfix, IsPrimary}
+use Rattle.cl_grammar.specs.Expressions.{IsA, IsUnary, IsCond, IsPrimary}
 use Rattle.cl_grammar.specs.Parts as p
-use Rattle.cl_grammar.specs.Parts.{IsUnaryAssign, IsCastedAssign, IsCasted, IsTypeInBrackets, IsClosedCast}
+use Rattle.cl_grammar.specs.Parts.{IsUnaryAssign, IsCastedAssign, IsCasted, IsTypeInBrackets}
 use Rattle.cl_grammar.specs.Symbols as s
-use Rattle.cl_grammar.specs.Symbols.{Sym, ExprSym, Class, Mark, Of, E, S, D, belongs, is_type_word, Is, IsE, Are, continues, tails, is_any, have_some}
+use Rattle.cl_grammar.specs.Symbols.{Sym, ExprSym, Class, Mark, E, belongs, Is, IsE, Are, continues, tails, is_any, have_some}
 use Rattle.cl_grammar.specs.Items.{Fits, Item, Excluded, between, StandsAt, IsAt, OtherAt, GoesOn, ReadAt, NoneAt, OutAt, IsRefused, RefusedAt, IsBarred, BarredAt}
 use Rattle.cl_parse_expr.specs.Reading.{BeginsTyped, BeginsUntyped, other, untyped}
 use Rattle.cl_grammar.proofs.TerminalKinds.{kind, has, class_has, class_kind, any_has, any_kind, implies, not as negated, all_below, each, excluded_middle}

@@ -4,10 +4,10 @@ use Rattle.std.specs.Prelude.{codes}
 use Rattle.cl_grammar.specs.declared.lexeme.Lexeme.{Lexeme}
 use Rattle.cl_grammar.specs.declared.terminal.Terminal.TheVariants as t
 use Rattle.cl_grammar.specs.Expressions as g
-use Rattle.cl_grammar.specs.Expressions.{IsA, IsSpec}
+use Rattle.cl_grammar.specs.Expressions.{IsSpec}
 use Rattle.cl_grammar.specs.Statements as s
 use Rattle.cl_grammar.specs.DeclarationSymbols as d
-use Rattle.cl_grammar.specs.DeclarationSymbols.{DeclSym, is_decl, IsBehindParam, IsNextParam, IsParams, IsFunction, IsBehindType, IsInAttribute, IsWords}
+use Rattle.cl_grammar.specs.DeclarationSymbols.{DeclSym, is_decl, IsBehindParam, IsParams, IsFunction}
 use Rattle.cl_parse_expr.proofs.StatementExamples.{sample}
 
 sized : Lexeme

@@ -11,7 +11,7 @@ use Rattle.cl_grammar.specs.Expressions.{AreAssigns}
 use Rattle.cl_grammar.specs.ExpressionTrees.{ExprTree}
 use Rattle.cl_grammar.specs.Lexemes.{lexemes_of, lexeme_of, end_lexeme, resolve, resolved}
 use Rattle.cl_grammar.specs.Symbols as s
-use Rattle.cl_grammar.specs.Symbols.{Sym, E, Are}
+use Rattle.cl_grammar.specs.Symbols.{E}
 use Rattle.cl_grammar.specs.Items.{Fits, between, EndsIn, ReadAt, NoneAt, OutAt, RefusedAt, IsRefused}
 use Rattle.cl_grammar.proofs.Places.{between_one, between_join}
 use Rattle.cl_parse_expr.specs.Longest.{Longest, FirstOut, IsOut, StopsAt}

@@ -17,10 +17,10 @@ use Rattle.cl_grammar.specs.declared.stop.ExprStop.TheVariants.{Out, NoMemory}
 use Rattle.cl_grammar.specs.Terminals.{increment_behind, arrow_of}
 use Rattle.cl_grammar.specs.Expressions.{IsA}
 use Rattle.cl_grammar.specs.ExpressionTrees as tree
-use Rattle.cl_grammar.specs.ExpressionTrees.{IsExpr, StarOf, SuffixTrees, PrimaryTree}
+use Rattle.cl_grammar.specs.ExpressionTrees.{IsExpr, SuffixTrees, PrimaryTree}
 use Rattle.cl_grammar.specs.Symbols as s
-use Rattle.cl_grammar.specs.Symbols.{Sym, ExprSym, Class, Mark, Of, E, is_some, is_type_word, have_some}
-use Rattle.cl_grammar.specs.Items.{between, EndsIn, StandsAt, IsAt, OtherAt, PlaceAt, TextAt, GoesOn, ReadAt, NoneAt, OutAt, IsRefused, RefusedAt}
+use Rattle.cl_grammar.specs.Symbols.{Sym, Mark, E, is_some, is_type_word, have_some}
+use Rattle.cl_grammar.specs.Items.{between, EndsIn, StandsAt, IsAt, OtherAt, PlaceAt, TextAt, GoesOn, ReadAt, IsRefused, RefusedAt}
 use Rattle.cl_grammar.proofs.TerminalKinds.{kind, has}
 use Rattle.cl_grammar.proofs.Steps.{bar, begun_by}
 use Rattle.cl_grammar.proofs.Predicted.{keeps_mark, picks, bars}
@@ -28,7 +28,7 @@ use Rattle.cl_grammar.proofs.Examples.{token}
 use Rattle.cl_grammar.proofs.Places.{between_one, between_join, starts_with, expand, then, then_mark, then_of, done, stops_here, no_memory, by_class, by_other_kinds, more_tokens}
 use Rattle.cl_parse_expr.proofs.Words.{same_token, same_terminal}
 use Rattle.cl_parse_expr.specs.Reading as r
-use Rattle.cl_parse_expr.specs.Reading.{is_suffix_mark, BeginsStruct, TagAt, MemberAt, NoMemberAt, HeadAt, SuffixAt, NoSuffixAt, SuffixFrom, CallAt, NoCallAt}
+use Rattle.cl_parse_expr.specs.Reading.{is_suffix_mark, BeginsStruct, TagAt, MemberAt, NoMemberAt, SuffixAt, NoSuffixAt, SuffixFrom, CallAt, NoCallAt}
 
 -- ---- tokens
 

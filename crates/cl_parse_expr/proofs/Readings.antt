@@ -16,7 +16,7 @@ use Rattle.cl_grammar.proofs.ExpressionStarts.{cast_begins}
 use Rattle.cl_grammar.proofs.Steps.{begun_of}
 use Rattle.cl_grammar.specs.Terminals.{prefix_of, increment_before, binary_of, assignment_of}
 use Rattle.cl_grammar.specs.Symbols as s
-use Rattle.cl_grammar.specs.Symbols.{Sym, ExprSym, Class, Mark, Of, E, is_some, is_type_word}
+use Rattle.cl_grammar.specs.Symbols.{Sym, ExprSym, Mark, E, is_some}
 use Rattle.cl_grammar.specs.Items.{between, EndsIn, IsAt, OtherAt, GoesOn, ReadAt, NoneAt, OutAt, IsRefused, RefusedAt, IsBarred, BarredAt, Fits, Begun}
 use Rattle.cl_grammar.proofs.TerminalKinds.{kind, has, not as negated}
 use Rattle.cl_grammar.proofs.Predicted.{picks, keeps_ok, keeps_part}

@@ -4,7 +4,7 @@ use Rattle.cl_grammar.specs.declared.lexeme.Lexeme.{Lexeme}
 use Rattle.cl_grammar.specs.declared.terminal.Terminal.{Terminal}
 use Rattle.cl_grammar.specs.declared.terminal.Terminal.TheVariants as t
 use Rattle.cl_grammar.specs.Expressions as g
-use Rattle.cl_grammar.specs.Expressions.{IsA, IsAssign, AreAssigns, IsDeclor}
+use Rattle.cl_grammar.specs.Expressions.{IsAssign, IsDeclor}
 use Rattle.cl_grammar.specs.Statements as s
 use Rattle.cl_grammar.specs.StatementSymbols as x
 use Rattle.cl_grammar.specs.StatementSymbols.{StmtSym, is_stmt, IsBracketed}

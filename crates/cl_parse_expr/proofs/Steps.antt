@@ -15,7 +15,7 @@ use Rattle.cl_grammar.specs.declared.stop.ExprStop.{ExprStop}
 use Rattle.cl_grammar.specs.declared.stop.ExprStop.TheVariants.{NoMemory}
 use Rattle.cl_grammar.specs.Terminals.{prefix_of, increment_before, assignment_of, qualifier_of}
 use Rattle.cl_grammar.specs.ExpressionTrees as e
-use Rattle.cl_grammar.specs.ExpressionTrees.{IsExpr, IsSpec, ExprTree, AssignTree, AssignTrees, CondTree, CastTree, UnaryTree, PostfixTree, PrimaryTree, SpecTree, BaseTree, Qualify}
+use Rattle.cl_grammar.specs.ExpressionTrees.{IsExpr, IsSpec, ExprTree, AssignTree, AssignTrees, CondTree, CastTree, UnaryTree, PostfixTree, PrimaryTree, SpecTree, Qualify}
 use Rattle.cl_grammar.specs.Symbols as s
 use Rattle.cl_grammar.specs.Symbols.{Sym, E, Mark}
 use Rattle.cl_grammar.specs.Items.{between, EndsIn, IsAt, OtherAt, PlaceAt, TextAt, ReadAt, NoneAt, RefusedAt, BarredAt}

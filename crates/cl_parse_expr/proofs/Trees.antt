@@ -19,7 +19,7 @@ use Rattle.cl_grammar.specs.declared.terminal.Terminal.TheVariants as t
 use Rattle.cl_grammar.specs.Terminals.{prefix_of, increment_before, binary_of, assignment_of}
 use Rattle.cl_grammar.specs.Expressions.{IsA, IsTypeTerm, begins_open, is_open}
 use Rattle.cl_grammar.specs.ExpressionTrees as e
-use Rattle.cl_grammar.specs.ExpressionTrees.{IsExpr, IsTerm, ExprTree, AssignTree, AssignTrees, CondTree, BinTree, RowTrees, CastTree, UnaryTree, PostfixTree, SuffixTrees, PrimaryTree, TypeTermTree, SpecTree, StarOf, Joins, level_at}
+use Rattle.cl_grammar.specs.ExpressionTrees.{IsExpr, ExprTree, AssignTree, AssignTrees, CondTree, RowTrees, CastTree, UnaryTree, PostfixTree, SuffixTrees, PrimaryTree, TypeTermTree, SpecTree, StarOf, Joins, level_at}
 use Rattle.cl_precedence.specs.Grouping.{Groups}
 use Rattle.cl_grammar.specs.Symbols as s
 use Rattle.cl_grammar.specs.Symbols.{E}

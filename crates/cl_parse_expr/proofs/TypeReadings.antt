@@ -13,7 +13,7 @@ use Rattle.cl_grammar.specs.Expressions.{IsA, IsStar, MayBeStar}
 use Rattle.cl_grammar.specs.ExpressionTrees as trees
 use Rattle.cl_grammar.specs.ExpressionTrees.{StarOf}
 use Rattle.cl_grammar.specs.Symbols as s
-use Rattle.cl_grammar.specs.Symbols.{Sym, ExprSym, Class, Mark, Of, E, is_some, is_type_word, Is, Are, continues}
+use Rattle.cl_grammar.specs.Symbols.{Sym, ExprSym, Mark, E, is_type_word, Is, Are, continues}
 use Rattle.cl_grammar.specs.Items.{Fits, Item, Excluded, between, EndsIn, IsAt, OtherAt, GoesOn, ReadAt, NoneAt, RefusedAt, BarredAt, IsRefused, IsBarred}
 use Rattle.cl_grammar.proofs.TerminalKinds.{kind}
 use Rattle.cl_grammar.proofs.Rules.{Fills}

@@ -12,9 +12,9 @@ use Rattle.cl_grammar.specs.declared.terminal.Terminal.TheVariants as t
 use Rattle.cl_grammar.specs.declared.stop.ExprStop.TheVariants.{Out}
 use Rattle.cl_grammar.specs.Terminals.{qualifier_of, pointer_qualifier_of, whole_type, sign_of, width_of, takes_int}
 use Rattle.cl_grammar.specs.Symbols as s
-use Rattle.cl_grammar.specs.Symbols.{Sym, ExprSym, Mark, Of, E, is_some, is_lone, is_type_word, Are, makes}
+use Rattle.cl_grammar.specs.Symbols.{ExprSym, Mark, E, is_some, is_lone, is_type_word, makes}
 use Rattle.cl_grammar.specs.ExpressionTrees as x
-use Rattle.cl_grammar.specs.ExpressionTrees.{Qualify, StarOf, WidthOf, IntegerOf, BaseTree, type_of_word}
+use Rattle.cl_grammar.specs.ExpressionTrees.{Qualify, StarOf, WidthOf, IntegerOf, type_of_word}
 use Rattle.cl_grammar.specs.Items.{Item, between, EndsIn, StandsAt, IsAt, OtherAt, GoesOn, ReadAt, RefusedAt, PlaceAt, TextAt}
 use Rattle.cl_grammar.proofs.TerminalKinds.{kind, has}
 use Rattle.cl_grammar.proofs.Rules.{width_word}

@@ -11,7 +11,8 @@ use std::alloc::Global;
 use std::marker::Model;
 
 /// Tokens with the typedefs before them. A contract sees them as the tokens of the grammar, where a name that a
-/// typedef declared is the name of a type.
+/// typedef declared is the name of a type. Indices are of tokens, from 0. What reads a part is refused at the first
+/// token at which no such part goes on, and else fails for want of memory alone; `Out` has the index of that token.
 #[derive(Drop)]
 pub struct Reader<'a> {
     pub(crate) lexemes: &'a [Lexeme],

@@ -247,6 +247,7 @@ impl<'a> Reader<'a> {
         ensures tree { IfOk result (λ t. BaseTree (between self.now at t.1) t.0) }
         ensures out { IfErr result (RefusedAt (E (sym.Base false)) self.now at) }
     {
+        // The number of the tokens that are read is below 2^63, so what stands behind one has an index.
         let _ = &self.lexemes;
         let behind = at + 1;
         if !self.is_at(behind, Terminal::Name) {
@@ -286,6 +287,7 @@ impl<'a> Reader<'a> {
         requires begins { BeginsStruct self.now at }
         ensures { IfOk result (TagAt self.now at) }
     {
+        // The number of the tokens that are read is below 2^63, so what stands behind one has an index.
         let _ = &self.lexemes;
         if self.is_at(at + 1, Terminal::OpenBrace) {
             return Ok(Tag {
@@ -417,7 +419,6 @@ impl<'a> Reader<'a> {
         ensures tree { IfOk result (λ t. SuffixFrom self.now at t.next tree t.tree) }
         ensures out { IfErr result (RefusedAt (E sym.Suffixes) self.now at) }
     {
-        let _ = &self.lexemes;
         let terminal = self.peek(at);
         let place = self.place(at);
         if let Some(arrow) = terminal.arrow() {
@@ -445,7 +446,6 @@ impl<'a> Reader<'a> {
         requires within { at < length self.now }
         ensures { MatchBool result (CallAt self.now at) (NoCallAt self.now at) }
     {
-        let _ = &self.lexemes;
         if !self.is_at(at, Terminal::Name) {
             return false;
         }
@@ -467,7 +467,6 @@ impl<'a> Reader<'a> {
         ensures tree { IfOk result (λ t. PrimaryTree (between self.now at t.next) t.tree) }
         ensures out { IfErr result (RefusedAt (E sym.Primary) self.now at) }
     {
-        let _ = &self.lexemes;
         match self.peek(at) {
             Terminal::Name => Ok(self.name_or_empty_call(alloc, at)?),
             Terminal::Number { value, ty } => {
@@ -491,6 +490,7 @@ impl<'a> Reader<'a> {
         ensures forth { IfOk result (λ t. at < t.next) }
         ensures tree { IfOk result (λ t. PrimaryTree (between self.now at t.next) t.tree) }
     {
+        // The number of the tokens that are read is below 2^63, so what stands behind one has an index.
         let _ = &self.lexemes;
         let place = self.place(at);
         let name = self.text(alloc, at)?;

@@ -1,17 +1,15 @@
 -- The readings of functions that read one part after another: what they have read, and what refuses it.
-use Rattle.std.proofs.Common.{◌≡◌, ◌≢◌, ℕ, ◌+◌, ◌<◌, ◌≤◌, Bool, true, false, List, [], ◌∷◌, ◌++◌, length, refl, sym, ap, ◌∙◌, subst, arith, append_assoc}
+use Rattle.std.proofs.Common.{◌≡◌, ℕ, ◌+◌, true, false, List, [], ◌∷◌, ◌++◌, refl, sym, subst, arith}
 use Rattle.std.specs.Prelude.{Option, Some, None}
 use Rattle.std.specs.Global.{Vec}
 use Rattle.cl_ast.specs.declared.expression.Expr.{Expr}
 use Rattle.cl_ast.specs.declared.expression.Spec.{Spec}
-use Rattle.cl_ast.specs.declared.expression.Declor.{Declor}
 use Rattle.cl_ast.specs.declared.declaration.Init.{Init}
 use Rattle.cl_ast.specs.declared.declaration.Init.TheVariants as init
 use Rattle.cl_ast.specs.declared.declaration.InitDeclor.{InitDeclor}
 use Rattle.cl_ast.specs.declared.statement.Stmt.{Stmt}
 use Rattle.cl_ast.specs.declared.statement.Group.{Group}
 use Rattle.cl_ast.specs.declared.statement.Label.{Label}
-use Rattle.cl_ast.specs.declared.statement.StmtNode.{StmtNode}
 use Rattle.cl_ast.specs.declared.statement.StmtNode.TheVariants as node
 use Rattle.clv_place.specs.declared.place.Place.{Place}
 use Rattle.cl_grammar.specs.declared.lexeme.Lexeme.{Lexeme}
@@ -19,22 +17,21 @@ use Rattle.cl_grammar.specs.declared.terminal.Terminal.{Terminal}
 use Rattle.cl_grammar.specs.declared.terminal.Terminal.TheVariants as t
 use Rattle.cl_grammar.specs.declared.stop.ExprStop.{ExprStop}
 use Rattle.cl_grammar.specs.Symbols as e
-use Rattle.cl_grammar.specs.Symbols.{Sym, Mark, E, S}
+use Rattle.cl_grammar.specs.Symbols.{Mark, E, S}
 use Rattle.cl_grammar.specs.StatementSymbols as x
-use Rattle.cl_grammar.specs.ExpressionTrees.{ExprTree, AssignTree, CondTree, SpecTree, DeclorTree}
+use Rattle.cl_grammar.specs.ExpressionTrees.{ExprTree, AssignTree, CondTree, SpecTree}
 use Rattle.cl_grammar.specs.StatementTrees as s
-use Rattle.cl_grammar.specs.StatementTrees.{MayBeTree, InitTree, InitTrees, InitDeclorTree, InitDeclorTrees, LabelTree, LabelTrees, ForStartTree, BlockTree, ItemTree, ItemTrees, StmtTree, SectionTrees, IsStmt, BeginsAt}
-use Rattle.cl_grammar.specs.Items.{between, EndsIn, IsAt, OtherAt, PlaceAt, GoesOn, ReadAt, RefusedAt}
+use Rattle.cl_grammar.specs.StatementTrees.{InitTree, InitDeclorTrees, LabelTree, BlockTree, ItemTree, StmtTree, IsStmt}
+use Rattle.cl_grammar.specs.Items.{between, EndsIn, IsAt, PlaceAt, ReadAt, RefusedAt}
 use Rattle.cl_grammar.proofs.TerminalKinds.{kind}
 use Rattle.cl_grammar.proofs.Predicted.{keeps_mark, keeps_part}
 use Rattle.cl_grammar.proofs.Places.{then, done, goes}
-use Rattle.cl_grammar.proofs.StatementPredicted.{stmt_picks, keeps_stmt, keeps_arm}
+use Rattle.cl_grammar.proofs.StatementPredicted.{stmt_picks, keeps_stmt}
 use Rattle.cl_grammar.proofs.StatementPlaces.{stmt_starts, then_stmt, stops_next}
 use Rattle.cl_parse_stmt.specs.declared.clause.ForHead.{ForHead}
-use Rattle.cl_parse_stmt.specs.Looks.{KindAt, TypeAt, is_clause_end}
 use Rattle.cl_parse_stmt.specs.Readings as r
 use Rattle.cl_parse_stmt.specs.Readings.{Has, HasStmt, HasItems, HasSections, BracketsTree, ClauseTree, NamesTree, DeclaresTree, ForHeadTree}
-use Rattle.cl_parse_stmt.proofs.TreeParts.{only_if_tree, if_else_tree, while_tree, for_tree, do_tree, switch_tree, return_tree, empty_tree, expression_tree, item_tree, start_tree, declares_tree}
+use Rattle.cl_parse_stmt.proofs.TreeParts.{while_tree, for_tree, do_tree, switch_tree, return_tree, empty_tree, expression_tree, item_tree}
 use Rattle.cl_parse_stmt.proofs.Moves.{then_expect, reads_some, tokens_mark, tokens_end, tokens_part, place_of, begins_there}
 
 -- ---- brackets

@@ -1,27 +1,25 @@
 -- An expression that may be missing, and the mark behind it.
-use Rattle.std.proofs.Common.{◌≡◌, ◌≢◌, ℕ, ◌+◌, ◌<◌, ◌≤◌, Bool, true, false, List, [], ◌∷◌, ◌++◌, length, refl, sym, ap, ◌∙◌, subst, arith}
-use Rattle.std.specs.Prelude.{Option, Some, None}
+use Rattle.std.proofs.Common.{◌≡◌, ℕ, ◌+◌, true, false, List, [], ◌∷◌, ◌++◌, refl, arith}
+use Rattle.std.specs.Prelude.{Some, None}
 use Rattle.cl_ast.specs.declared.expression.Expr.{Expr}
 use Rattle.cl_grammar.specs.declared.lexeme.Lexeme.{Lexeme}
 use Rattle.cl_grammar.specs.declared.terminal.Terminal.{Terminal}
 use Rattle.cl_grammar.specs.declared.terminal.Terminal.TheVariants as t
 use Rattle.cl_grammar.specs.declared.stop.ExprStop.{ExprStop}
 use Rattle.cl_grammar.specs.Symbols as e
-use Rattle.cl_grammar.specs.Symbols.{Sym, Mark, E, S, makes, have_some}
+use Rattle.cl_grammar.specs.Symbols.{Mark, E, S, makes, have_some}
 use Rattle.cl_grammar.specs.StatementSymbols as x
 use Rattle.cl_grammar.specs.ExpressionTrees.{ExprTree}
-use Rattle.cl_grammar.specs.Items.{between, EndsIn, IsAt, OtherAt, PlaceAt, GoesOn, ReadAt, RefusedAt}
+use Rattle.cl_grammar.specs.Items.{between, EndsIn, IsAt, OtherAt, GoesOn, ReadAt, RefusedAt}
 use Rattle.cl_grammar.proofs.TerminalKinds.{kind, has}
-use Rattle.cl_grammar.proofs.Steps.{Keeps}
-use Rattle.cl_grammar.proofs.Predicted.{keeps_mark, keeps_part, keeps_ok, row_at}
-use Rattle.cl_grammar.proofs.Places.{then, done, goes}
-use Rattle.cl_grammar.proofs.StatementRules.{stmt_rules}
+use Rattle.cl_grammar.proofs.Predicted.{keeps_mark, keeps_part, keeps_ok}
+use Rattle.cl_grammar.proofs.Places.{then, done}
 use Rattle.cl_grammar.proofs.StatementPredicted.{stmt_picks}
 use Rattle.cl_grammar.proofs.StatementPlaces.{stmt_starts, stops_next}
 use Rattle.cl_parse_stmt.specs.Looks.{is_clause_end}
 use Rattle.cl_parse_stmt.specs.Readings as r
 use Rattle.cl_parse_stmt.specs.Readings.{Has, ClauseTree}
-use Rattle.cl_parse_stmt.proofs.Moves.{then_expect, reads_some, tokens_mark, tokens_end, tokens_part, begins_there, place_at}
+use Rattle.cl_parse_stmt.proofs.Moves.{then_expect, reads_some, tokens_end, tokens_part, begins_there, place_at}
 
 picks_end : (end : Terminal) → is_clause_end end ≡ true → stmt_picks (x.Clause end) 0 (kind end) ≡ true
 picks_end t.Semicolon h = refl

@@ -1,5 +1,5 @@
 -- What the next token begins, from the token.
-use Rattle.std.proofs.Common.{◌≡◌, ℕ, Bool, true, false, List, refl, sym, subst}
+use Rattle.std.proofs.Common.{◌≡◌, ℕ, Bool, true, false, List, sym}
 use Rattle.std.specs.Prelude.{MatchBool}
 use Rattle.cl_grammar.specs.declared.lexeme.Lexeme.{Lexeme}
 use Rattle.cl_grammar.specs.declared.terminal.Terminal.{Terminal}

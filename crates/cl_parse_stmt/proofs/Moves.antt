@@ -1,22 +1,19 @@
 -- Steps over tokens that several functions make.
-use Rattle.std.proofs.Common.{◌≡◌, ◌≢◌, ℕ, zero, suc, ◌+◌, ◌-◌, ◌<◌, ◌≤◌, Bool, true, false, List, [], ◌∷◌, ◌++◌, length, take, drop, get_or, refl, sym, ap, ◌∙◌, subst, add-one, arith, ◌⊎◌, inl, inr, append_assoc}
-use Rattle.std.specs.Prelude.{Result, Ok, Err, IfErr, IsErrAnd}
+use Rattle.std.proofs.Common.{◌≡◌, ℕ, zero, suc, ◌+◌, ◌-◌, ◌<◌, ◌≤◌, false, List, [], ◌∷◌, ◌++◌, length, drop, get_or, refl, sym, ap, ◌∙◌, subst, add-one, arith, ◌⊎◌, inl, inr}
+use Rattle.std.specs.Prelude.{Result, IfErr, IsErrAnd}
 use Rattle.std.proofs.lemmas.Result.{err_from_is_err_and}
 use Rattle.std.proofs.lemmas.List.{append-nil}
 use Rattle.std.proofs.Math.Seq.{drop-cons}
 use Rattle.cl_grammar.specs.declared.lexeme.Lexeme.{Lexeme}
 use Rattle.cl_grammar.specs.declared.terminal.Terminal.{Terminal}
-use Rattle.cl_grammar.specs.declared.terminal.Terminal.TheVariants as t
 use Rattle.cl_grammar.specs.declared.stop.ExprStop.{ExprStop}
 use Rattle.cl_grammar.specs.declared.stop.ExprStop.TheVariants.{NoMemory}
 use Rattle.clv_place.specs.declared.place.Place.{Place}
-use Rattle.cl_grammar.specs.Symbols.{Sym, ExprSym, Mark, E, S, Is, Are}
-use Rattle.cl_grammar.specs.StatementSymbols.{StmtSym}
+use Rattle.cl_grammar.specs.Symbols.{Sym, Mark, Is}
 use Rattle.cl_grammar.specs.StatementTrees.{BeginsAt, begins}
-use Rattle.cl_grammar.specs.Items.{Fits, Item, between, EndsIn, StandsAt, IsAt, OtherAt, PlaceAt, GoesOn, ReadAt, RefusedAt}
+use Rattle.cl_grammar.specs.Items.{Item, between, EndsIn, StandsAt, IsAt, PlaceAt, GoesOn, ReadAt, RefusedAt}
 use Rattle.cl_grammar.proofs.TerminalKinds.{kind, has, excluded_middle}
-use Rattle.cl_grammar.proofs.Firsts.{Begins}
-use Rattle.cl_grammar.proofs.Starts.{symbol_firsts, empties, first_of_symbol}
+use Rattle.cl_grammar.proofs.Starts.{empties, first_of_symbol}
 use Rattle.cl_grammar.proofs.Places.{between_same, between_one, between_join, then_mark, more_tokens}
 
 -- some token stands at an index below the length

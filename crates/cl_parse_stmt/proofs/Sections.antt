@@ -1,44 +1,31 @@
 -- The readings of functions that read labels, items and sections in a loop: what they have read so far, and what refuses it.
-use Rattle.std.proofs.Common.{◌≡◌, ◌≢◌, ℕ, ◌+◌, ◌<◌, ◌≤◌, Bool, true, false, List, [], ◌∷◌, ◌++◌, length, refl, sym, ap, ◌∙◌, subst, arith, append_assoc, ◌⊎◌, inl, inr}
-use Rattle.std.specs.Prelude.{Option, Some, None, ◌||◌}
+use Rattle.std.proofs.Common.{◌≡◌, ℕ, ◌+◌, ◌<◌, true, false, List, [], ◌∷◌, ◌++◌, length, refl, sym, ap, ◌∙◌, subst, arith, append_assoc, ◌⊎◌, inl, inr}
 use Rattle.std.specs.Global.{Vec}
 use Rattle.std.proofs.lemmas.List.{append-nil}
-use Rattle.cl_ast.specs.declared.expression.Expr.{Expr}
-use Rattle.cl_ast.specs.declared.expression.Spec.{Spec}
-use Rattle.cl_ast.specs.declared.expression.Declor.{Declor}
-use Rattle.cl_ast.specs.declared.declaration.Init.{Init}
-use Rattle.cl_ast.specs.declared.declaration.Init.TheVariants as init
-use Rattle.cl_ast.specs.declared.declaration.InitDeclor.{InitDeclor}
 use Rattle.cl_ast.specs.declared.statement.Stmt.{Stmt}
 use Rattle.cl_ast.specs.declared.statement.Group.{Group}
 use Rattle.cl_ast.specs.declared.statement.Label.{Label}
-use Rattle.cl_ast.specs.declared.statement.StmtNode.{StmtNode}
 use Rattle.cl_ast.specs.declared.statement.StmtNode.TheViews.{roll-Group, out-roll-Group}
-use Rattle.cl_ast.specs.declared.statement.StmtNode.TheVariants as node
-use Rattle.clv_place.specs.declared.place.Place.{Place}
 use Rattle.cl_grammar.specs.declared.lexeme.Lexeme.{Lexeme}
 use Rattle.cl_grammar.specs.declared.terminal.Terminal.{Terminal}
 use Rattle.cl_grammar.specs.declared.terminal.Terminal.TheVariants as t
 use Rattle.cl_grammar.specs.declared.stop.ExprStop.{ExprStop}
 use Rattle.cl_grammar.specs.Symbols as e
-use Rattle.cl_grammar.specs.Symbols.{Sym, Mark, E, S}
+use Rattle.cl_grammar.specs.Symbols.{S}
 use Rattle.cl_grammar.specs.StatementSymbols as x
-use Rattle.cl_grammar.specs.ExpressionTrees.{ExprTree, AssignTree, CondTree, SpecTree, DeclorTree}
 use Rattle.cl_grammar.specs.StatementTrees as s
-use Rattle.cl_grammar.specs.StatementTrees.{MayBeTree, InitTree, InitTrees, InitDeclorTree, InitDeclorTrees, LabelTree, LabelTrees, ForStartTree, BlockTree, ItemTree, ItemTrees, StmtTree, SectionTrees, IsStmt, IsGroup, IsApart, BeginsAt}
-use Rattle.cl_grammar.specs.Items.{between, EndsIn, IsAt, OtherAt, PlaceAt, GoesOn, ReadAt, RefusedAt}
-use Rattle.cl_grammar.specs.Expressions.{IsA}
-use Rattle.cl_grammar.proofs.TerminalKinds.{kind, has, all_below}
+use Rattle.cl_grammar.specs.StatementTrees.{LabelTree, LabelTrees, ItemTree, ItemTrees, SectionTrees, IsGroup, IsApart}
+use Rattle.cl_grammar.specs.Items.{between, IsAt, GoesOn, RefusedAt}
+use Rattle.cl_grammar.proofs.TerminalKinds.{kind, has}
 use Rattle.cl_grammar.proofs.Steps.{Keeps}
-use Rattle.cl_grammar.proofs.Predicted.{keeps_mark, keeps_part, others_rejected}
-use Rattle.cl_grammar.proofs.Places.{then, done, goes, by_kinds, by_other_kinds, between_same, between_join}
-use Rattle.cl_grammar.proofs.StatementPredicted.{stmt_picks, label_rows, keeps_stmt, keeps_arm}
-use Rattle.cl_grammar.proofs.StatementPlaces.{stmt_starts, else_starts, label_starts, then_stmt, stops_next}
-use Rattle.cl_parse_stmt.specs.declared.clause.ForHead.{ForHead}
+use Rattle.cl_grammar.proofs.Predicted.{others_rejected}
+use Rattle.cl_grammar.proofs.Places.{done, goes, by_kinds, by_other_kinds, between_same, between_join}
+use Rattle.cl_grammar.proofs.StatementPredicted.{stmt_picks, label_rows, keeps_stmt}
+use Rattle.cl_grammar.proofs.StatementPlaces.{stmt_starts, label_starts, then_stmt, stops_next}
 use Rattle.cl_parse_stmt.specs.Looks.{LabelAt, NoLabelAt, ItemsEndAt, MoreItemsAt, is_label, is_items_end}
 use Rattle.cl_parse_stmt.specs.Readings as r
-use Rattle.cl_parse_stmt.specs.Readings.{Has, HasStmt, HasItems, HasLabels, HasSections, BracketsTree, ClauseTree, NamesTree, DeclaresTree, ForHeadTree}
-use Rattle.cl_parse_stmt.proofs.Moves.{same_token, token_at, itself, place_at, then_expect, reads_some, tokens_mark, tokens_end, tokens_part, place_of, begins_there}
+use Rattle.cl_parse_stmt.specs.Readings.{Has, HasItems, HasLabels, HasSections}
+use Rattle.cl_parse_stmt.proofs.Moves.{same_token, itself, tokens_part}
 
 label_kind : (k : Terminal) → is_label k ≡ has (31 ∷ 32 ∷ []) (kind k)
 label_kind (t.TypeName true) = refl

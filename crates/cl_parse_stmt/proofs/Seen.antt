@@ -1,5 +1,5 @@
 -- The tokens of a text, as a reader sees them, end.
-use Rattle.std.proofs.Common.{◌≡◌, ℕ, ◌<◌, ◌+◌, List, [], ◌∷◌, ◌++◌, length, length-append, ap, sym, ◌∙◌, subst, arith}
+use Rattle.std.proofs.Common.{◌≡◌, ◌<◌, List, [], ◌∷◌, length, length-append, ap, sym, ◌∙◌, subst, arith}
 use Rattle.clv_place.specs.declared.place.Place.{Place}
 use Rattle.cl_lexer.specs.declared.token.Token.{Token}
 use Rattle.cl_grammar.specs.declared.lexeme.Lexeme.{Lexeme}

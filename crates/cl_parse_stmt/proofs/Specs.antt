@@ -1,5 +1,5 @@
 -- The words of a type, of which some name a vector and some don't.
-use Rattle.std.proofs.Common.{◌≡◌, ℕ, List, [], ◌∷◌, ◌++◌, drop, Bool, true, false, refl, ◌⊎◌, inl, inr}
+use Rattle.std.proofs.Common.{ℕ, List, [], ◌∷◌, ◌++◌, drop, Bool, true, false, ◌⊎◌, inl, inr}
 use Rattle.std.specs.Prelude.{not}
 use Rattle.cl_grammar.specs.declared.lexeme.Lexeme.{Lexeme}
 use Rattle.cl_grammar.specs.declared.stop.ExprStop.{ExprStop}
@@ -8,7 +8,7 @@ use Rattle.cl_grammar.specs.Parts.{IsAnySpec, any_spec}
 use Rattle.cl_grammar.specs.Expressions.{IsSpec}
 use Rattle.cl_grammar.specs.Symbols as s
 use Rattle.cl_grammar.specs.Symbols.{E}
-use Rattle.cl_grammar.specs.Items.{Fits, Item, Excluded, Begun, between, ReadAt, NoneAt, OutAt, IsRefused, RefusedAt, IsBarred, BarredAt}
+use Rattle.cl_grammar.specs.Items.{Item, Excluded, between, ReadAt, NoneAt, OutAt, IsRefused, RefusedAt, IsBarred, BarredAt}
 
 either : (vector : Bool) (u : List Lexeme) → IsAnySpec u → IsSpec vector u ⊎ IsSpec (not vector) u
 either true _ (any_spec true u a) = inl a

@@ -16,7 +16,7 @@ use Rattle.cl_grammar.specs.declared.terminal.Terminal.TheVariants as t
 use Rattle.cl_grammar.specs.Expressions.{IsA}
 use Rattle.cl_grammar.specs.ExpressionTrees.{ExprTree, SpecTree}
 use Rattle.cl_grammar.specs.StatementTrees as s
-use Rattle.cl_grammar.specs.StatementTrees.{BeginsAt, begins, MayBeTree, InitDeclorTrees, ForStartTree, BlockTree, ItemTree, ItemTrees, StmtTree, SectionTrees, IsStmt}
+use Rattle.cl_grammar.specs.StatementTrees.{BeginsAt, begins, MayBeTree, InitDeclorTrees, ForStartTree, ItemTree, StmtTree, SectionTrees, IsStmt}
 use Rattle.cl_parse_stmt.specs.declared.clause.ForHead.{ForHead}
 use Rattle.cl_parse_stmt.specs.Readings as r
 use Rattle.cl_parse_stmt.specs.Readings.{BracketsTree, ClauseTree, NamesTree, DeclaresTree, ForHeadTree}

@@ -1,5 +1,5 @@
 -- What the reader's functions answer: a part of the grammar from one token to another, with its tree.
-use Rattle.std.specs.Prelude.{◌≡◌, ◌≢◌, ℕ, ◌+◌, ◌<◌, Bool, true, false, Option, Some, None, List, [], ◌∷◌, ◌++◌}
+use Rattle.std.specs.Prelude.{◌≡◌, ℕ, ◌+◌, ◌<◌, Bool, true, Option, Some, None, List, [], ◌∷◌, ◌++◌}
 use Rattle.std.specs.Global.{Vec}
 use Rattle.clv_place.specs.declared.place.Place.{Place}
 use Rattle.cl_ast.specs.declared.expression.Expr.{Expr}
@@ -12,10 +12,10 @@ use Rattle.cl_grammar.specs.declared.terminal.Terminal.{Terminal}
 use Rattle.cl_grammar.specs.declared.terminal.Terminal.TheVariants as t
 use Rattle.cl_grammar.specs.Expressions.{IsA}
 use Rattle.cl_grammar.specs.ExpressionTrees.{ExprTree}
-use Rattle.cl_grammar.specs.StatementTrees.{BeginsAt, MayBeTree, InitDeclorTrees, ForStartTree, LabelTrees, ItemTrees, StmtTree, SectionTrees}
+use Rattle.cl_grammar.specs.StatementTrees.{BeginsAt, InitDeclorTrees, ForStartTree, LabelTrees, ItemTrees, StmtTree, SectionTrees}
 use Rattle.cl_grammar.specs.Symbols.{Sym, S}
 use Rattle.cl_grammar.specs.StatementSymbols as x
-use Rattle.cl_grammar.specs.Items.{between, IsAt, OtherAt, GoesOn, ReadAt}
+use Rattle.cl_grammar.specs.Items.{between, OtherAt, GoesOn, ReadAt}
 use Rattle.cl_parse_stmt.specs.declared.clause.ForHead.{ForHead}
 use Rattle.cl_parse_stmt.specs.Looks.{NoLabelAt}
 

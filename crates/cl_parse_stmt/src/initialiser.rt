@@ -84,7 +84,8 @@ fn init_declor(alloc: Global, reader: &Reader, at: usize) -> Result<(InitDeclor,
 }
 
 /// The declared names at an index, each with its initialiser, if any, and the index behind them (C99 6.7, 6.7.8).
-/// Indices are of tokens, from 0. It is refused at the first token at which they don't go on.
+/// Indices are of tokens, from 0. It is refused at the first token at which they don't go on, and else fails for want
+/// of memory alone.
 #[tactic(none)]
 pub fn init_declors(
     alloc: Global,

@@ -22,7 +22,7 @@ use cl_parse_expr::Reader;
 use std::alloc::Global;
 
 /// The block at an index, and the index behind it (C99 6.8.2). Indices are of tokens, from 0. It is refused at the
-/// first token at which no block goes on.
+/// first token at which no block goes on, and else fails for want of memory alone.
 #[tactic(none)]
 #[cycle(statements)]
 pub fn block(alloc: Global, reader: &Reader, at: usize) -> Result<(Stmt, usize), ExprStop>

@@ -1,4 +1,4 @@
-use Rattle.cl_parse_stmt.proofs.Moves.{token_at, out_by}
+use Rattle.cl_parse_stmt.proofs.Moves.{out_by}
 use Rattle.cl_parse_stmt.proofs.Clauses.{clause_stop_here, clause_none, clause_stop_0, clause_stop_1, clause_some}
 use Rattle.cl_parse_stmt.proofs.clause.clause.Goals as goal
 

@@ -1,4 +1,3 @@
-use Rattle.std.proofs.Common.{refl}
 use Rattle.cl_parse_stmt.proofs.Moves.{out_by}
 use Rattle.cl_parse_stmt.proofs.Statements.{start_stop, start_ok, start_declares}
 use Rattle.cl_parse_stmt.proofs.simple.for_start.Goals as goal
