@@ -21,7 +21,8 @@ import time
 program, folder = sys.argv[1:]
 
 KERNEL = """
-/* Sums rows of a matrix, with a weight for each column, and keeps the greatest. */
+/* Sums rows of a matrix, with a weight for each column, and keeps the greatest.
+ * `scratch` has a place for each work-item of a group; `width` is the number of columns. */
 #define WEIGHT_%(n)d(x) ((x) * 3 + %(n)d)
 typedef struct { int sum; int4 parts; uint count[4]; } row_%(n)d;
 
@@ -81,7 +82,11 @@ def least(wanted, *command):
 
 
 def ours(name):
-    return least(1, program, "compile", name, folder + "/out.spv")
+    command = [program, "compile", name, folder + "/out.spv"]
+    said = subprocess.run(command, stdout=subprocess.PIPE, text=True).stdout
+    if said != "source 900 1:1\n":
+        sys.exit("failed: %s isn't judged whole: %s" % (name, said))
+    return least(1, *command)
 
 
 def theirs(name):
