@@ -1,7 +1,7 @@
 #!/usr/bin/env bash
 # Times the judging of texts, which is tokens, macros and grammar so far, at 256 KiB, 512 KiB and 1 MiB, beside
 # what clang takes for the syntax and types of the same text. It stands outside the gate: times depend on the
-# machine, so only ratios within one run mean anything. Each time is the least of five runs of the whole process,
+# machine, so only ratios within one run mean anything. Each time is the least of fifteen runs of the whole process,
 # less that of a text of a few bytes. The texts are ordinary kernels, which are refused by code 900 once they are
 # judged.
 set -u
@@ -70,9 +70,9 @@ def text(size):
 
 
 def least(wanted, *command):
-    """The least of five times, in seconds."""
+    """The least of fifteen times, in seconds."""
     times = []
-    for _ in range(5):
+    for _ in range(15):
         start = time.perf_counter()
         done = subprocess.run(command, stdout=subprocess.PIPE, stderr=subprocess.PIPE, text=True)
         times.append(time.perf_counter() - start)
