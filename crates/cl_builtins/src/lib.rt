@@ -11,6 +11,3 @@ pub use call::{FindStop, Found, find};
 pub use form::Form;
 pub use kind::{Gentype, Kind};
 pub use name::Rule;
-
-#[cfg(test)]
-mod tests;

@@ -7,8 +7,6 @@ pub mod operator;
 mod outcome;
 mod read;
 pub mod term;
-#[cfg(test)]
-mod tests;
 
 pub use judging::{judge, one_judgement};
 pub use operator::{BinaryOperator, UnaryOperator};

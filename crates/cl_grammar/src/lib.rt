@@ -20,6 +20,3 @@ pub use operator::Operator;
 pub use stop::ExprStop;
 pub use terminal::Terminal;
 pub use weight::first_over;
-
-#[cfg(test)]
-mod tests;

@@ -9,8 +9,6 @@ mod joined;
 mod mark;
 mod number;
 pub mod read;
-#[cfg(test)]
-mod tests;
 pub mod token;
 
 pub use read::{MAX_TEXT, lex, one_verdict};

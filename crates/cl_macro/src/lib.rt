@@ -11,5 +11,3 @@ pub mod replace;
 pub mod row;
 pub mod stack;
 pub mod table;
-#[cfg(test)]
-mod tests;

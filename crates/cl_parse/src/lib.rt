@@ -9,6 +9,3 @@ mod verdict;
 mod word;
 
 pub use verdict::{one_offence, parse};
-
-#[cfg(test)]
-mod tests;

@@ -13,6 +13,3 @@ pub use cl_grammar::{ExprStop, TypeName, TypeNames};
 pub use expression::{SpecRead, Taken};
 pub use parse::parse_expr;
 pub use reader::Reader;
-
-#[cfg(test)]
-mod tests;

@@ -13,6 +13,3 @@ mod statement;
 
 pub use initialiser::init_declors;
 pub use statement::block;
-
-#[cfg(test)]
-mod tests;

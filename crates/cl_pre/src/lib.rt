@@ -9,9 +9,8 @@ pub mod expansion;
 mod front;
 mod group;
 mod predefined;
-#[cfg(test)]
-mod tests;
 mod unended;
 mod word;
 
+pub use definition::same_kinds;
 pub use expansion::{MAX_RESULT, expand, one_verdict};

@@ -3,7 +3,5 @@
 #![tactic(auto)]
 
 pub mod grouping;
-#[cfg(test)]
-mod tests;
 
 pub use grouping::{Operand, grouped, one_grouping};

@@ -20,6 +20,3 @@ pub use space::Space;
 pub use stop::TypeStop;
 pub use table::TypeTable;
 pub use types::{ClType, Member, TypeId};
-
-#[cfg(test)]
-mod tests;

@@ -4,9 +4,9 @@
 
 mod command;
 mod compiler;
-mod emit;
-mod form;
-mod front;
+pub mod emit;
+pub mod form;
+pub mod front;
 mod id;
 mod load;
 mod marks;
@@ -14,8 +14,6 @@ mod outcome;
 mod report;
 mod run_file;
 mod run_module;
-#[cfg(test)]
-mod tests;
 mod top;
 
 pub use compiler::compile;

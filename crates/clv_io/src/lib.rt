@@ -12,6 +12,3 @@ pub use files::{Files, LoadFault, StoreFault};
 pub use host::{HostFiles, HostSink};
 pub use sink::{Sink, SinkFault};
 pub use steady::{SteadyFiles, SteadySink};
-
-#[cfg(test)]
-mod tests;

@@ -8,8 +8,6 @@ mod line;
 mod number;
 pub mod read;
 mod said;
-#[cfg(test)]
-mod tests;
 
 pub use launch::{ArgKind, ArgLine, ArgSize, Launch, LaunchSizes, LaunchStop, Schedule};
 pub use read::read_launch;

@@ -20,6 +20,3 @@ pub use ending::{Ending, Stepped, Trap};
 pub use machine::Machine;
 pub use spv_meaning::TrapKind;
 pub use stop::NewStop;
-
-#[cfg(test)]
-mod tests;

@@ -8,8 +8,6 @@ pub mod round_trip;
 mod shape;
 pub mod stop;
 mod string;
-#[cfg(test)]
-mod tests;
 mod words;
 pub mod writing;
 

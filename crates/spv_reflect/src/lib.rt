@@ -10,8 +10,6 @@ pub mod reading;
 pub mod rows;
 mod rules;
 pub mod stop;
-#[cfg(test)]
-mod tests;
 pub mod writing;
 mod written;
 

@@ -187,8 +187,8 @@ fn put_back(
     put_lines(alloc, out, ids, r)
 }
 
-/// The body with the lines, and its bound.
-pub(crate) fn build(
+/// The body with the lines, and its bound: what `write_reflection` puts into a module. Fails for want of memory alone.
+pub fn build(
     alloc: Global,
     body: &[Inst],
     bound: u32,

@@ -7,6 +7,3 @@ pub mod checked;
 pub mod laws;
 
 pub use checked::Checked;
-
-#[cfg(test)]
-mod tests;

@@ -4,8 +4,6 @@
 
 pub mod reading;
 mod scalar;
-#[cfg(test)]
-mod tests;
 pub mod value;
 
 pub use reading::view;

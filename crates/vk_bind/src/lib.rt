@@ -2,12 +2,10 @@
 //! types and decorations alone.
 #![tactic(auto)]
 
-mod binding;
-mod parameters;
+pub mod binding;
+pub mod parameters;
 mod rules;
 pub mod start;
-#[cfg(test)]
-mod tests;
 
 pub use binding::{bind, kept_or_broken};
 pub use start::{BindStop, Bound, Spec, Start};

@@ -1,0 +1,8 @@
+//! The proof desk of the pattern room: tests of types and of what typing looks up, alone and over the crates that
+//! they test, so that those are proved once.
+#![tactic(auto)]
+
+#[cfg(test)]
+mod cl_builtins_tests;
+#[cfg(test)]
+mod cl_types_tests;
