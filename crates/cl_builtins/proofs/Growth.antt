@@ -2,7 +2,8 @@
 use Rattle.std.proofs.Common.{◌≡◌, ℕ, zero, suc, ◌<◌, ◌≤◌, List, [], ◌∷◌, ◌++◌, length, take, map, refl, sym, ap, ◌∙◌, subst, arith, append_assoc, Bool, true, false, ◌&&◌, ◌||◌, Some, None, Option, slice_get, get_or, true≢false}
 use Rattle.std.specs.Prelude.{is_some, nat_eq, Result, Ok, Err, IfOk, OnErr}
 use Rattle.std.specs.Cmp.{first_so, second_so}
-use Rattle.std.specs.List.{AllZip}
+use Rattle.std.specs.List.{All, AllZip}
+use Rattle.std.proofs.lemmas.List.Elements.{All-append, All-cons, All-nil}
 use Rattle.std.proofs.lemmas.List.{append-nil}
 use Rattle.std.proofs.lemmas.Option.{slice_get_within}
 use Rattle.cl_types.specs.declared.space.Space.{Space}
@@ -17,7 +18,7 @@ use Rattle.cl_builtins.specs.declared.kind.Gentype.{Gentype}
 use Rattle.cl_builtins.specs.declared.kind.Kind.{Kind}
 use Rattle.cl_builtins.specs.declared.kind.Kind.TheVariants as kind
 use Rattle.cl_builtins.specs.Kinds.{is_gentype, integer_in, vector_in, pointer_in, kind_in, kind_of}
-use Rattle.cl_builtins.specs.Found.{IsKnown, AreKnown, IsGrown, HasKind}
+use Rattle.cl_builtins.specs.Found.{IsKnown, AreKnown, IsGrown, IsSimple, Adds, HasKind}
 use Rattle.cl_builtins.specs.Tables.{Keeps, IsAt, IsOfTable, EachOfTable}
 
 none_some : {A : Type 0} {x : A} → None ≡ Some x → ⊥
@@ -74,9 +75,18 @@ grown_known old new t g k =
 pub grown_get : (old new : List ClType) (i : ℕ) → IsGrown old new → i < length old → slice_get new i ≡ slice_get old i
 grown_get old new i g h = ap (λ z. slice_get z i) g.1 ∙ get_left old g.0 i h
 
-interned_grown : (old new : List ClType) (c : ClType) (t : ℕ) → Interned old new c t → IsGrown old new
-interned_grown old new c t (there e f) = grown_same old new e
-interned_grown old new c t (put e f a) = (c ∷ [], e)
+pub adds_grown : (old new : List ClType) → Adds old new → IsGrown old new
+adds_grown old new g = (g.0, g.1)
+
+pub adds_same : (old new : List ClType) → new ≡ old → Adds old new
+adds_same old new e = ([], e ∙ sym (append-nil old), All-nil IsSimple)
+
+pub adds_twice : (old mid new : List ClType) → Adds old mid → Adds mid new → Adds old new
+adds_twice old mid new g h = (g.0 ++ h.0, h.1 ∙ ap (λ z. z ++ h.0) g.1 ∙ append_assoc old g.0 h.0, All-append IsSimple g.0 h.0 g.2 h.2)
+
+interned_adds : (old new : List ClType) (c : ClType) (t : ℕ) → IsSimple c → Interned old new c t → Adds old new
+interned_adds old new c t s (there e f) = adds_same old new e
+interned_adds old new c t s (put e f a) = (c ∷ [], e, All-cons IsSimple c [] s (All-nil IsSimple))
 
 interned_get : (old new : List ClType) (c : ClType) (t : ℕ) → Interned old new c t → slice_get new t ≡ Some c
 interned_get old new c t (there e f) = ap (λ z. slice_get z t) e ∙ f
@@ -119,24 +129,24 @@ kind_stays old new t (ty.Array elem n) g h = refl
 kind_stays old new t (ty.Struct name members) g h = refl
 kind_stays old new t (ty.Pointer space to readonly restricted) g h = ap (λ o. pointer_in t space readonly (integer_in o)) (grown_get old new to.0 g h)
 
-kind_kept : (old new : List ClType) → AreBuilt [] old → IsGrown old new → (t : TypeId) → IsKnown old t → kind_of new t ≡ kind_of old t
+pub kind_kept : (old new : List ClType) → AreBuilt [] old → IsGrown old new → (t : TypeId) → IsKnown old t → kind_of new t ≡ kind_of old t
 kind_kept old new b g t k =
     let c = get_some old t.0 k in
     ap (kind_in new t) (grown_get old new t.0 g k ∙ c.1) ∙ kind_stays old new t c.0 g (names_at old t.0 c.0 b c.1) ∙ ap (kind_in old t) (sym c.1)
 
-pub keeps_grown : (old new : List ClType) → AreBuilt [] old → IsGrown old new → Keeps old new
-keeps_grown old new b g = record { grown = g; kinds = kind_kept old new b g }
+pub keeps_adds : (old new : List ClType) → AreBuilt [] old → Adds old new → Keeps old new
+keeps_adds old new b g = record { adds = g; kinds = kind_kept old new b (adds_grown old new g) }
 
 pub keeps_same : (old new : List ClType) → new ≡ old → Keeps old new
-keeps_same old new e = record { grown = grown_same old new e; kinds = λ t k. ap (λ z. kind_of z t) e }
+keeps_same old new e = record { adds = adds_same old new e; kinds = λ t k. ap (λ z. kind_of z t) e }
 
 pub keeps_itself : (cs : List ClType) → Keeps cs cs
 keeps_itself cs = keeps_same cs cs refl
 
 pub keeps_twice : (old mid new : List ClType) → Keeps old mid → Keeps mid new → Keeps old new
 keeps_twice old mid new g h = record {
-  grown = grown_twice old mid new g.grown h.grown;
-  kinds = λ t k. h.kinds t (grown_known old mid t g.grown k) ∙ g.kinds t k;
+  adds = adds_twice old mid new g.adds h.adds;
+  kinds = λ t k. h.kinds t (grown_known old mid t (adds_grown old mid g.adds) k) ∙ g.kinds t k;
 }
 
 -- ---- the number of a type
@@ -146,9 +156,9 @@ pub interned_at : (old new : List ClType) (c : ClType) (r : Result TypeId TypeSt
 interned_at old new c (Ok t) h = interned_get old new c t.0 h
 interned_at old new c (Err s) h = h
 
-pub interned_kept : (old new : List ClType) (c : ClType) (r : Result TypeId TypeStop) → AreBuilt [] old → IfOk r (λ t. Interned old new c t.0) → OnErr r (new ≡ old) → Keeps old new
-interned_kept old new c (Ok t) b h e = keeps_grown old new b (interned_grown old new c t.0 h)
-interned_kept old new c (Err s) b h e = keeps_same old new e
+pub interned_kept : (old new : List ClType) (c : ClType) (r : Result TypeId TypeStop) → AreBuilt [] old → IsSimple c → IfOk r (λ t. Interned old new c t.0) → OnErr r (new ≡ old) → Keeps old new
+interned_kept old new c (Ok t) b p h e = keeps_adds old new b (interned_adds old new c t.0 p h)
+interned_kept old new c (Err s) b p h e = keeps_same old new e
 
 pub at_known : (cs : List ClType) (c : ClType) (t : TypeId) → IsAt cs c t → IsKnown cs t
 at_known cs c t e = slice_get_within cs t.0 c e
@@ -167,10 +177,10 @@ scalar_kind cs g t n e = at_kind cs (ty.Int g.bits g.signed) t (kind.Integers g)
 
 pub vector_kind : (mid new : List ClType) (g : Gentype) (elem t : TypeId) → IsAt mid (ty.Int g.bits g.signed) elem → Keeps mid new → IsAt new (ty.Vector elem g.count) t → HasKind new (kind.Integers g) t
 vector_kind mid new g elem t e k f =
-    at_kind new (ty.Vector elem g.count) t (kind.Integers g) f (ap (λ o. vector_in t g.count (integer_in o)) (grown_get mid new elem.0 k.grown (at_known mid (ty.Int g.bits g.signed) elem e) ∙ e))
+    at_kind new (ty.Vector elem g.count) t (kind.Integers g) f (ap (λ o. vector_in t g.count (integer_in o)) (grown_get mid new elem.0 (adds_grown mid new k.adds) (at_known mid (ty.Int g.bits g.signed) elem e) ∙ e))
 
 pub has_kind_kept : (old new : List ClType) (k : Kind) (t : TypeId) → Keeps old new → HasKind old k t → HasKind new k t
-has_kind_kept old new k t g h = record { known = grown_known old new t g.grown h.known; is = g.kinds t h.known ∙ h.is }
+has_kind_kept old new k t g h = record { known = grown_known old new t (adds_grown old new g.adds) h.known; is = g.kinds t h.known ∙ h.is }
 
 -- ---- types that a table can have
 

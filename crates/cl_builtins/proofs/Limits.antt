@@ -10,7 +10,7 @@ use Rattle.cl_types.specs.declared.types.ClType.TheVariants as ty
 use Rattle.cl_types.specs.Layout.{TypeTree, Void, Scalar, Vector, Array, Struct, room_of, is_width, is_count, IsScalar}
 use Rattle.cl_types.specs.Table.{IsBuilt, AreBuilt, IsWithin, IsOver, tree_from, trees, tree_of}
 use Rattle.cl_types.proofs.Rows.{integer_scalar}
-use Rattle.cl_builtins.specs.Tables.{IsFlat}
+use Rattle.cl_builtins.specs.Found.{IsSimple}
 
 width_low : (bits : ℕ) → is_width bits ≡ true → bits / 8 ≤ 8
 width_low bits h = by (nat_eq bits 8) (nat_eq bits 16) (nat_eq bits 32) (nat_eq bits 64) refl refl refl refl h
@@ -46,19 +46,19 @@ vector_within (Vector t m) n h g = absurd h
 vector_within (Array t m) n h g = absurd h
 vector_within (Struct ts) n h g = absurd h
 
-flat_within : (cs : List ClType) (c : ClType) → AreBuilt [] cs → IsBuilt cs c → IsFlat c → IsWithin (tree_from (trees cs) c)
-flat_within cs ty.Void b h f = record { size = lit≤ tt; depth = lit≤ tt }
-flat_within cs ty.Bool b h f = scalar_within 8 refl
-flat_within cs (ty.Int bits signed) b h f = scalar_within bits h
-flat_within cs (ty.Vector elem n) b h f = vector_within (tree_of cs elem.0) n (integer_scalar cs elem.0 b h.0) h.1
-flat_within cs (ty.Array elem n) b h f = absurd f
-flat_within cs (ty.Struct name members) b h f = absurd f
-flat_within cs (ty.Pointer space to readonly restricted) b h f = scalar_within 32 refl
+simple_within : (cs : List ClType) (c : ClType) → AreBuilt [] cs → IsBuilt cs c → IsSimple c → IsWithin (tree_from (trees cs) c)
+simple_within cs ty.Void b h f = record { size = lit≤ tt; depth = lit≤ tt }
+simple_within cs ty.Bool b h f = scalar_within 8 refl
+simple_within cs (ty.Int bits signed) b h f = scalar_within bits h
+simple_within cs (ty.Vector elem n) b h f = vector_within (tree_of cs elem.0) n (integer_scalar cs elem.0 b h.0) h.1
+simple_within cs (ty.Array elem n) b h f = absurd f
+simple_within cs (ty.Struct name members) b h f = absurd f
+simple_within cs (ty.Pointer space to readonly restricted) b h f = absurd f
 
 -- so a table refuses them for neither limit
-module _ (cs : List ClType) (c : ClType) (s : TypeStop) (b : AreBuilt [] cs) (h : IsBuilt cs c) (f : IsFlat c) (o : IsOver (tree_from (trees cs) c) s) where
+module _ (cs : List ClType) (c : ClType) (s : TypeStop) (b : AreBuilt [] cs) (h : IsBuilt cs c) (f : IsSimple c) (o : IsOver (tree_from (trees cs) c) s) where
   pub not_large : s ≡ TooLarge → ⊥
-  not_large e = let w = flat_within cs c b h f in let l = subst (IsOver (tree_from (trees cs) c)) e o in omega (arith, w.size, l)
+  not_large e = let w = simple_within cs c b h f in let l = subst (IsOver (tree_from (trees cs) c)) e o in omega (arith, w.size, l)
 
   pub not_deep : s ≡ TooDeep → ⊥
-  not_deep e = let w = flat_within cs c b h f in let l = subst (IsOver (tree_from (trees cs) c)) e o in omega (arith, w.depth, l.1)
+  not_deep e = let w = simple_within cs c b h f in let l = subst (IsOver (tree_from (trees cs) c)) e o in omega (arith, w.depth, l.1)

@@ -4,6 +4,7 @@ use Rattle.std.specs.List.{AllZip}
 use Rattle.cl_types.specs.declared.builtin.Builtin.{Builtin}
 use Rattle.cl_types.specs.declared.builtin.Builtin.TheVariants.{Select}
 use Rattle.cl_types.specs.declared.types.ClType.{ClType}
+use Rattle.cl_types.specs.declared.types.ClType.TheVariants as ty
 use Rattle.cl_types.specs.declared.types.TypeId.{TypeId}
 use Rattle.cl_builtins.specs.declared.call.Found.{Found}
 use Rattle.cl_builtins.specs.declared.call.FindStop.{FindStop}
@@ -25,6 +26,17 @@ AreKnown cs ts = All (IsKnown cs) ts
 -- the new table has the types of the old one, by the same numbers
 abbrev pub IsGrown : List ClType → List ClType → Type 0
 IsGrown old new = (more : List ClType) × (new ≡ old ++ more)
+
+-- void, bool, an integer or a vector
+abbrev pub IsSimple : ClType → Type 0
+IsSimple (ty.Array elem len) = ⊥
+IsSimple (ty.Struct name members) = ⊥
+IsSimple (ty.Pointer space to readonly restricted) = ⊥
+IsSimple _ = Unit {0}
+
+-- the new table has the types of the old one, and maybe more of these
+abbrev pub Adds : List ClType → List ClType → Type 0
+Adds old new = (more : List ClType) × (new ≡ old ++ more) × All IsSimple more
 
 -- the type is in the table, and is this
 pub record HasKind (cs : List ClType) (k : Kind) (t : TypeId) : Type 0 where

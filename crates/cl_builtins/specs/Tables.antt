@@ -1,28 +1,21 @@
 -- Types that a table has or can have, and what stays when it grows.
 use Rattle.std.specs.Prelude.{◌≡◌, true, List, [], ◌∷◌, map, Some, slice_get}
 use Rattle.cl_types.specs.declared.types.ClType.{ClType}
-use Rattle.cl_types.specs.declared.types.ClType.TheVariants as ty
 use Rattle.cl_types.specs.declared.types.TypeId.{TypeId}
 use Rattle.cl_builtins.specs.declared.form.Form.{Form}
 use Rattle.cl_builtins.specs.declared.kind.Kind.{Kind}
 use Rattle.cl_builtins.specs.declared.kind.Kind.TheVariants as kind
-use Rattle.cl_builtins.specs.Found.{IsKnown, IsGrown, HasKind}
+use Rattle.cl_builtins.specs.Found.{IsKnown, Adds, HasKind}
 use Rattle.cl_builtins.specs.Kinds.{is_gentype, kind_of}
 
 -- the types of the old table stay, and are what they were
 pub record Keeps (old new : List ClType) : Type 0 where
-  pub grown : IsGrown old new
+  pub adds : Adds old new
   pub kinds : (t : TypeId) → IsKnown old t → kind_of new t ≡ kind_of old t
 
 -- what the types are
 abbrev pub AreKinds : List ClType → List TypeId → List Kind → Type 0
 AreKinds cs ts ks = ks ≡ map (kind_of cs) ts
-
--- a type without elements and members
-abbrev pub IsFlat : ClType → Type 0
-IsFlat (ty.Array elem len) = ⊥
-IsFlat (ty.Struct name members) = ⊥
-IsFlat _ = Unit {0}
 
 -- the table has the type by this number
 abbrev pub IsAt : List ClType → ClType → TypeId → Type 0

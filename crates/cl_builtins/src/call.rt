@@ -3,8 +3,8 @@
 ghost use Rattle.std.specs.Prelude.{◌≡◌, List, ◌++◌, length, IfOk};
 ghost use Rattle.cl_types.specs.Table.{IsBuilt};
 ghost use Rattle.cl_builtins.specs.Kinds.{kind_of};
-ghost use Rattle.cl_builtins.specs.Found.{AreKnown, IsGrown, HasKind, named_by, IsFound, Finds};
-ghost use Rattle.cl_builtins.specs.Tables.{Keeps, AreKinds, IsFlat, IsAt, IsOfTable, AreOfTable};
+ghost use Rattle.cl_builtins.specs.Found.{AreKnown, IsSimple, Adds, HasKind, named_by, IsFound, Finds};
+ghost use Rattle.cl_builtins.specs.Tables.{Keeps, AreKinds, IsAt, IsOfTable, AreOfTable};
 
 use crate::form::Form;
 use crate::kind::{Gentype, Kind};
@@ -56,11 +56,11 @@ fn kinds(alloc: Global, args: &List<TypeId>, types: &TypeTable) -> Result<List<K
     Ok(kinds)
 }
 
-// The number of a type, with what the table had as it was. Types without elements and members are within the
-// limits of a table, so it refuses them for want of memory or of a number alone.
+// The number of a type, with what the table had as it was. Integers and vectors are within the limits of a table,
+// so it refuses them for want of memory or of a number alone.
 fn intern(ty: ClType, types: &mut TypeTable) -> Result<TypeId, NoMemory>
     requires built { IsBuilt types.old ty }
-    requires flat { IsFlat ty }
+    requires simple { IsSimple ty }
     ensures at { IfOk result (IsAt types.new ty) }
     ensures kept { Keeps types.old types.new }
 {
@@ -142,7 +142,7 @@ fn answer(
 /// The built-in function that a call of a name with arguments of these types means. `NoName` comes exactly
 /// where no built-in function has the name, and `NoForm` exactly where one has it and none of its forms
 /// takes such arguments, but for want of memory. An array that stands for a pointer is given as that
-/// pointer. The table keeps its types, also after a refusal, and may have more.
+/// pointer. The table keeps its types, also after a refusal, and may have more integers and vectors.
 pub fn find(
     alloc: Global,
     name: &[u8],
@@ -151,7 +151,7 @@ pub fn find(
 ) -> Result<Found, FindStop>
     requires { AreKnown types.old args.now }
     ensures found { Finds name.now types.old args.now types.new result }
-    ensures kept { IsGrown types.old types.new }
+    ensures kept { Adds types.old types.new }
 {
     let Some((builtin, rule)) = entry(name) else {
         return Err(FindStop::NoName);

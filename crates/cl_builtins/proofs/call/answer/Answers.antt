@@ -5,7 +5,7 @@ use Rattle.cl_builtins.specs.declared.kind.Kind.{Kind}
 use Rattle.cl_builtins.specs.declared.kind.Kind.TheVariants as kind
 use Rattle.cl_builtins.specs.Found.{HasKind}
 use Rattle.cl_builtins.specs.Tables.{EachOfTable}
-use Rattle.cl_builtins.proofs.Growth.{Answered, each_at, of_table_kept, answered_more, zip_kept}
+use Rattle.cl_builtins.proofs.Growth.{Answered, each_at, of_table_kept, answered_more, keeps_twice, zip_kept}
 use Rattle.cl_builtins.proofs.call.answer.Goals as goal
 
 pub type_of-requires : goal.type_of-requires
@@ -34,3 +34,9 @@ returns-clause-found c =
       params = subst (AllZip (HasKind new) c.args.form.now.params) out (zip_kept c.loop-kind.types new c.args.form.now.params c.loop-kind.params c.in_ok-type_of-2.ensures.kept found);
       result = c.in_ok-type_of-2.ensures.number;
     }
+
+pub returns-in_err-push-clause-kept : goal.returns-in_err-push-clause-kept
+returns-in_err-push-clause-kept c = keeps_twice c.args.types.now c.loop-kind.types c.type_of.new.types c.loop-kind.invariant.kept c.type_of.ensures.kept
+
+pub returns-clause-kept : goal.returns-clause-kept
+returns-clause-kept c = keeps_twice c.args.types.now c.loop-kind.types c.type_of-2.new.types c.loop-kind.invariant.kept c.type_of-2.ensures.kept
