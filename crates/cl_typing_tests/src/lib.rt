@@ -5,4 +5,14 @@
 #[cfg(test)]
 mod cl_builtins_tests;
 #[cfg(test)]
+mod cl_constants_tests;
+#[cfg(test)]
+mod cl_rules_tests;
+#[cfg(test)]
+mod cl_scope_tests;
+#[cfg(test)]
+mod cl_tree_tests;
+#[cfg(test)]
 mod cl_types_tests;
+#[cfg(test)]
+mod cl_words_tests;

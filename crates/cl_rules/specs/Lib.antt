@@ -1,0 +1,4 @@
+pub mod Calls
+pub mod Operands
+pub mod Operators
+pub mod Parts

@@ -1,0 +1,5 @@
+pub mod Blocks
+pub mod Choice
+pub mod Firsts
+pub mod Indexed
+pub mod Mapped
