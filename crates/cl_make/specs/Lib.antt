@@ -1,0 +1,4 @@
+pub mod Answered
+pub mod Building
+pub mod Ready
+pub mod Wanted

@@ -1,0 +1,6 @@
+//! The fitting table of the pattern room: tests of what makes typed trees, alone and over the crates that they test, so
+//! that those are proved once.
+#![tactic(auto)]
+
+#[cfg(test)]
+mod cl_make_tests;
