@@ -4,3 +4,5 @@
 
 #[cfg(test)]
 mod cl_make_tests;
+#[cfg(test)]
+mod cl_type_expr_tests;

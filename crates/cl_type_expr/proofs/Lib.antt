@@ -1,0 +1,11 @@
+pub mod Arrays
+pub mod BuiltIns
+pub mod Bytes
+pub mod DeclaredNames
+pub mod Entries
+pub mod Forms
+pub mod Judging
+pub mod Loops
+pub mod Measured
+pub mod Nodes
+pub mod WordTypes
