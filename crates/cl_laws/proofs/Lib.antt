@@ -1,0 +1,14 @@
+pub mod BuiltinForms
+pub mod BuiltinsFit
+pub mod CallsFit
+pub mod DeclaredTypes
+pub mod EachTree
+pub mod Fitted
+pub mod IntegersFit
+pub mod Nesting
+pub mod NodesFit
+pub mod Opening
+pub mod OperatorsFit
+pub mod PartsFit
+pub mod SameTypes
+pub mod TreesFit
