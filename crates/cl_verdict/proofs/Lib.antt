@@ -1,8 +1,0 @@
-pub mod Deciding
-pub mod Laws
-pub mod Making
-pub mod OneAnswer
-pub mod Picking
-pub mod Plain
-pub mod Unfolding
-pub mod Verdicts
