@@ -43,7 +43,9 @@ fn first_left(left: bool, node: &ExprNode) -> bool
     }
 }
 
-/// An expression, on the left of an assignment or not. Structs that it declares are declared in the innermost block.
+/// The typed tree of an expression, on the left of an assignment or not, with what its parent has to know of it (C99,
+/// 6.5; OpenCL C 1.2, 6.3); or its first offence, or want of memory. The structs that it declares stand in the
+/// innermost block then. The table keeps its types, and may have more; after a refusal nothing is said of the names.
 #[cycle(expression)]
 pub fn expr(
     alloc: Global,
@@ -104,7 +106,8 @@ fn operands(
     Ok(typed)
 }
 
-/// The words of a type (C99, 6.7.2 and 6.7.3).
+/// The type that words name, with their qualifiers (C99, 6.7.2 and 6.7.3); or the first offence in them, or want of
+/// memory. The structs that they declare stand in the innermost block then. The table and the names are as for `expr`.
 #[cycle(expression)]
 pub fn words(
     alloc: Global,
@@ -221,8 +224,9 @@ fn named(
     Ok(())
 }
 
-/// The lengths of arrays, of which the first may be missing or not (C99, 6.7.5.2). 334 where one divides by zero or
-/// out of range; one that is no positive constant is told apart from the others.
+/// The lengths of arrays in elements, the outermost first, of which the first may be missing or not (C99, 6.7.5.2); or
+/// the first offence in them, which is 334 where one divides by zero or out of range, or want of memory. One that is no
+/// positive constant is told apart from the others. The table and the names are as for `expr`.
 #[cycle(expression)]
 pub fn lengths(
     alloc: Global,

@@ -14,8 +14,8 @@ use cl_types::TypeTable;
 use clv_place::Stop;
 use std::alloc::Global;
 
-/// The typed tree of an expression in a scope, or its first offence, but for want of memory. The table keeps its
-/// types, also after a refusal, and may have more.
+/// The typed tree of an expression in a scope (C99, 6.5; OpenCL C 1.2, 6.3), or its first offence, but for want of
+/// memory. The table keeps its types, also after a refusal, and may have more.
 pub fn type_expr(
     alloc: Global,
     e: &Expr,
