@@ -4,7 +4,9 @@ pub mod CallsFit
 pub mod DeclaredTypes
 pub mod EachTree
 pub mod Fitted
+pub mod InitialisersFit
 pub mod IntegersFit
+pub mod NamesKept
 pub mod Nesting
 pub mod NodesFit
 pub mod Opening
@@ -12,3 +14,5 @@ pub mod OperatorsFit
 pub mod PartsFit
 pub mod SameTypes
 pub mod TreesFit
+pub mod VariablesFit
+pub mod WordsFit

@@ -1,5 +1,5 @@
-//! The pattern drawers: the typing rules of operators, calls, casts and declared names, as functions of what their
-//! operands are. Each says the least code of a rule that is broken, or what is made.
+//! The pattern drawers: the typing rules of operators, calls and casts, as functions of what their operands are. Each
+//! says the least code of a rule that is broken, or what is made.
 #![tactic(auto)]
 
 pub mod assigning;

@@ -1,0 +1,6 @@
+pub mod Fills
+pub mod Lists
+pub mod Parts
+pub mod Pieces
+pub mod Values
+pub mod Variables

@@ -1,0 +1,5 @@
+pub mod Answers
+pub mod Bytes
+pub mod Declarations
+pub mod Initialisers
+pub mod Placing
