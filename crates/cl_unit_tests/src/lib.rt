@@ -6,3 +6,9 @@
 mod cl_make_tests;
 #[cfg(test)]
 mod cl_type_expr_tests;
+#[cfg(test)]
+mod cl_typing_kernels_tests;
+#[cfg(test)]
+mod cl_typing_tests;
+#[cfg(test)]
+mod common;
