@@ -7,9 +7,13 @@ use Rattle.cl_lexer.specs.declared.token.Tokens.{Tokens}
 use Rattle.cl_lexer.specs.Tokens.{Lexes, too_large, refused, read as reads, OneVerdict as LexedOnce}
 use Rattle.cl_pre.specs.Expansion.{Expansion, OneVerdict as ExpandedOnce}
 use Rattle.cl_ast.specs.declared.declaration.Ast.{Ast}
+use Rattle.cl_tree.specs.declared.tree.Tree.{Tree}
 use Rattle.cl_grammar.specs.Units.{Judges}
 use Rattle.cl_parse.specs.Verdicts.{OneOffence as JudgedOnce}
-use Rattle.clv_engine.specs.FirstForm.{kinds_of, IsRead, IsIn, IsNotBuilt, lexing, expanding, parsing, forming, InOrOut, OneOffence}
+use Rattle.cl_plain.specs.Laws.{SaysTheSame, OneTree}
+use Rattle.cl_typing.specs.Units.{IsTyped, IsOffence}
+use Rattle.cl_verdicts.specs.Verdicts.{NeverBoth as TypedOnly, OneOffence as RefusedOnce}
+use Rattle.clv_engine.specs.FirstForm.{kinds_of, IsRead, IsIn, IsNotBuilt, lexing, expanding, parsing, typing, forming, InOrOut, OneOffence}
 use Rattle.clv_engine.specs.Command.{IsText}
 
 pub some_is : (a b : List ℕ) → Some a ≡ Some b → a ≡ b
@@ -17,7 +21,7 @@ some_is a b e = cc
 
 -- ---- the verdicts of the phases
 
-module _ (lexed_once : LexedOnce) (expanded_once : ExpandedOnce) (judged_once : JudgedOnce) where
+module _ (lexed_once : LexedOnce) (expanded_once : ExpandedOnce) (judged_once : JudgedOnce) (one_tree : OneTree) (typed_only : TypedOnly) (refused_once : RefusedOnce) where
   same_tokens : (text : List ℕ) (a b : Tokens) → Lexes text (Ok a) → Lexes text (Ok b) → a ≡ b
   same_tokens text a b l m = let e = lexed_once text (Ok a) (Ok b) l m in cc
 
@@ -36,11 +40,20 @@ module _ (lexed_once : LexedOnce) (expanded_once : ExpandedOnce) (judged_once : 
   grammar_offends : (text : List ℕ) (a b c d : Tokens) (t : Ast) (o : Offence) → IsRead text a c → IsRead text b d → Judges c (Ok t) → Judges d (Err o) → ⊥
   grammar_offends text a b c d t o r q j k = let g = judged_once d o (Ok t) k (subst (λ z. Judges z (Ok t)) (same_expanded text a b c d r q) j) in cc
 
+  -- the trees of a text say the same
+  same_trees : (text : List ℕ) (a b c d : Tokens) (t u : Ast) → IsRead text a c → IsRead text b d → Judges c (Ok t) → Judges d (Ok u) → SaysTheSame t u
+  same_trees text a b c d t u r q j k = one_tree d t u (subst (λ z. Judges z (Ok t)) (same_expanded text a b c d r q) j) k
+
+  -- a unit that keeps the typing rules has no offence of these
+  typing_offends : (text : List ℕ) (a b c d : Tokens) (t u : Ast) (typed : Tree) (o : Offence) → IsRead text a c → IsRead text b d → Judges c (Ok t) → Judges d (Ok u) → IsTyped t typed → IsOffence u o → ⊥
+  typing_offends text a b c d t u typed o r q j k h x = typed_only t u typed o (same_trees text a b c d t u r q j k) h x
+
   -- no text is in and out
   pub in_out : InOrOut
   in_out text k o i (lexing l) = lexer_offends text i.tokens o i.is_read.lexes l
   in_out text k o i (expanding a l e) = expansion_offends text i.tokens a i.expanded o i.is_read l e
   in_out text k o i (parsing a c r j) = grammar_offends text i.tokens a i.expanded c i.tree o i.is_read r i.parses j
+  in_out text k o i (typing a c t r j x) = typing_offends text i.tokens a i.expanded c i.tree t i.typed o i.is_read r i.parses j i.types x
   in_out text k o i (forming n) =
       let e = same_expanded text i.tokens n.tokens i.expanded n.expanded i.is_read n.is_read in
       n.no_kernel k i.kernel (ap (λ z. kinds_of z.list) (sym e) ∙ i.spelled)
@@ -57,18 +70,27 @@ module _ (lexed_once : LexedOnce) (expanded_once : ExpandedOnce) (judged_once : 
   one_offence text o p (lexing l) (lexing m) = let e = lexed_once text (Err o) (Err p) l m in cc
   one_offence text o p (lexing l) (expanding b m f) = absurd (lexer_offends text b o m l)
   one_offence text o p (lexing l) (parsing b d q k) = absurd (lexer_offends text b o q.lexes l)
+  one_offence text o p (lexing l) (typing b d u q k y) = absurd (lexer_offends text b o q.lexes l)
   one_offence text o p (lexing l) (forming m) = absurd (lexer_offends text m.tokens o m.is_read.lexes l)
   one_offence text o p (expanding a l e) (lexing m) = absurd (lexer_offends text a p l m)
   one_offence text o p (expanding a l e) (expanding b m f) = let g = expanded_once b (Err o) (Err p) (subst (λ z. Expansion z (Err o)) (same_tokens text a b l m) e) f in cc
   one_offence text o p (expanding a l e) (parsing b d q k) = absurd (expansion_offends text b a d o q l e)
+  one_offence text o p (expanding a l e) (typing b d u q k y) = absurd (expansion_offends text b a d o q l e)
   one_offence text o p (expanding a l e) (forming m) = absurd (expansion_offends text m.tokens a m.expanded o m.is_read l e)
   one_offence text o p (parsing a c r j) (lexing m) = absurd (lexer_offends text a p r.lexes m)
   one_offence text o p (parsing a c r j) (expanding b m f) = absurd (expansion_offends text a b c p r m f)
   one_offence text o p (parsing a c r j) (parsing b d q k) = let g = judged_once d o (Err p) (subst (λ z. Judges z (Err o)) (same_expanded text a b c d r q) j) k in cc
+  one_offence text o p (parsing a c r j) (typing b d u q k y) = absurd (grammar_offends text b a d c u o q r k j)
   one_offence text o p (parsing a c r j) (forming m) = absurd (grammar_offends text m.tokens a m.expanded c m.tree o m.is_read r m.parses j)
+  one_offence text o p (typing a c t r j x) (lexing m) = absurd (lexer_offends text a p r.lexes m)
+  one_offence text o p (typing a c t r j x) (expanding b m f) = absurd (expansion_offends text a b c p r m f)
+  one_offence text o p (typing a c t r j x) (parsing b d q k) = absurd (grammar_offends text a b c d t p r q j k)
+  one_offence text o p (typing a c t r j x) (typing b d u q k y) = sym (refused_once t u o p (same_trees text a b c d t u r q j k) x y)
+  one_offence text o p (typing a c t r j x) (forming m) = absurd (typing_offends text m.tokens a m.expanded c m.tree t m.typed o m.is_read r m.parses j m.types x)
   one_offence text o p (forming n) (lexing m) = absurd (lexer_offends text n.tokens p n.is_read.lexes m)
   one_offence text o p (forming n) (expanding b m f) = absurd (expansion_offends text n.tokens b n.expanded p n.is_read m f)
   one_offence text o p (forming n) (parsing b d q k) = absurd (grammar_offends text n.tokens b n.expanded d n.tree p n.is_read q n.parses k)
+  one_offence text o p (forming n) (typing b d u q k y) = absurd (typing_offends text n.tokens b n.expanded d n.tree u n.typed p n.is_read q n.parses k n.types y)
   one_offence text o p (forming n) (forming m) = same_refusal text o p n m
 
 -- a text that is lexed has at most 1 MiB

@@ -11,6 +11,8 @@ use Rattle.cl_lexer.specs.Tokens.{Lexes}
 use Rattle.cl_pre.specs.Expansion.{Expansion}
 use Rattle.cl_ast.specs.declared.declaration.Ast.{Ast}
 use Rattle.cl_grammar.specs.Units.{Judges}
+use Rattle.cl_tree.specs.declared.tree.Tree.{Tree}
+use Rattle.cl_typing.specs.Units.{IsTyped, IsOffence}
 use Rattle.clv_engine.specs.declared.form.Kernel.{Kernel}
 use Rattle.clv_engine.specs.declared.form.Term.{Term}
 use Rattle.clv_engine.specs.declared.form.Term.TheVariants.{GlobalId, Literal}
@@ -66,33 +68,39 @@ pub record IsRead (text : List ℕ) (tokens expanded : Tokens) : Type 0 where
   pub lexes : Lexes text (Ok tokens)
   pub expands : Expansion tokens (Ok expanded)
 
--- The text's tokens expand to those of this kernel, which are a unit.
+-- The text's tokens expand to those of this kernel, which are a unit that keeps the typing rules.
 pub record IsIn (text : List ℕ) (k : Kernel) : Type 0 where
   pub tokens : Tokens
   pub expanded : Tokens
   pub is_read : IsRead text tokens expanded
   pub tree : Ast
   pub parses : Judges expanded (Ok tree)
+  pub typed : Tree
+  pub types : IsTyped tree typed
   pub kernel : IsKernel k
   pub spelled : kinds_of expanded.list ≡ kernel_tokens k
 
--- Code 900, at 1:1: the text's tokens expand to a unit, and to those of no such kernel.
+-- Code 900, at 1:1: the text's tokens expand to a unit that keeps the typing rules, and to those of no such kernel.
 pub record IsNotBuilt (text : List ℕ) (o : Offence) : Type 0 where
   pub tokens : Tokens
   pub expanded : Tokens
   pub is_read : IsRead text tokens expanded
   pub tree : Ast
   pub parses : Judges expanded (Ok tree)
+  pub typed : Tree
+  pub types : IsTyped tree typed
   pub no_kernel : (k : Kernel) → IsKernel k → kinds_of expanded.list ≡ kernel_tokens k → ⊥
   pub code : o.code ≡ 900
   pub line : o.place.line ≡ 1
   pub col : o.place.col ≡ 1
 
--- The offence of a text: the lexer's, else that of the expansion, else that of the grammar, else code 900.
+-- The offence of a text: the lexer's, else that of the expansion, else that of the grammar, else that of the typing rules, else code
+-- 900.
 pub data IsOut (text : List ℕ) (o : Offence) : Type 0 where
   lexing : Lexes text (Err o) → IsOut text o
   expanding : (tokens : Tokens) → Lexes text (Ok tokens) → Expansion tokens (Err o) → IsOut text o
   parsing : (tokens expanded : Tokens) → IsRead text tokens expanded → Judges expanded (Err o) → IsOut text o
+  typing : (tokens expanded : Tokens) (tree : Ast) → IsRead text tokens expanded → Judges expanded (Ok tree) → IsOffence tree o → IsOut text o
   forming : IsNotBuilt text o → IsOut text o
 
 -- The stop of a text: at its offence, or for want of memory, of which nothing is said.

@@ -11,8 +11,8 @@ use spv_binary::write;
 use std::alloc::Global;
 
 /// The bytes of the module of a text: the little-endian words of SPIR-V 1.3. A text is refused at its
-/// first offence: of the lexer, else of the expansion, else of the grammar. A unit that is no kernel of the
-/// form that is compiled so far is refused by code 900 at 1:1.
+/// first offence: of the lexer, else of the expansion, else of the grammar, else of the typing rules. A unit that
+/// keeps them and is no kernel of the form that is compiled so far is refused by code 900 at 1:1.
 #[tactic(auto, using(crate::proofs::Compiled::compile_steps))]
 pub fn compile(alloc: Global, text: &[u8]) -> Result<Text, Stop>
     ensures compiled { IfOk result (IsCompiled text.now) }

@@ -7,12 +7,13 @@ use crate::form::{Kernel, form};
 use cl_lexer::lex;
 use cl_parse::parse;
 use cl_pre::expand;
+use cl_typing::type_unit;
 use clv_place::{Offence, Place, Stop};
 use std::alloc::Global;
 
 /// The kernel that a text is, once its tokens are expanded. The text is refused at its first offence: of
-/// the lexer, else of the expansion, else of the grammar. A unit that is no such kernel is refused by code
-/// 900 at 1:1.
+/// the lexer, else of the expansion, else of the grammar, else of the typing rules. A unit that keeps them and
+/// is no such kernel is refused by code 900 at 1:1.
 #[tactic(auto, using(crate::proofs::Refusals::refusals))]
 pub fn first_form(alloc: Global, text: &[u8]) -> Result<Kernel, Stop>
     ensures ok { IfOk result (λ k. IsIn text.now k) }
@@ -20,7 +21,8 @@ pub fn first_form(alloc: Global, text: &[u8]) -> Result<Kernel, Stop>
 {
     let tokens = lex(alloc, text)?;
     let expanded = expand(alloc, &tokens)?;
-    let _tree = parse(alloc, &expanded)?;
+    let tree = parse(alloc, &expanded)?;
+    let _typed = type_unit(alloc, &tree)?;
     match form(alloc, expanded.list.as_slice())? {
         Some(kernel) => Ok(kernel),
         None => Err(Stop::Out(not_built())),
@@ -47,4 +49,6 @@ pub fn one_verdict()
     cl_lexer::one_verdict();
     cl_pre::one_verdict();
     cl_parse::one_offence();
+    cl_plain::one_tree();
+    cl_verdicts::one_verdict();
 }

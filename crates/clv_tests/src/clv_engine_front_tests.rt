@@ -21,7 +21,7 @@ fn zeros(alloc: Global, terms: usize, blanks: usize) -> Result<Vec<u8>, AllocErr
     Ok(text)
 }
 
-fn refused(code: u16, line: u32, col: u32) -> Option<Stop> {
+pub fn refused(code: u16, line: u32, col: u32) -> Option<Stop> {
     Some(Stop::Out(Offence {
         code,
         place: Place { line, col },
@@ -216,7 +216,7 @@ fn refuses_texts_at_their_first_offence(rt: HostRuntime) {
 
 #[test]
 fn refuses_units_of_another_form(rt: HostRuntime) {
-    let table: [&[u8]; 15] = [
+    let table: [&[u8]; 14] = [
         b"__kernel void k(__global uint*a){a[get_global_id(0)]=1u;}",
         b"__kernel void k(__global uint*a){a[get_global_id(0)]=2147483648;}",
         b"__kernel void k(__global uint*a){a[get_global_id(0)]=0x80000000;}",
@@ -227,7 +227,6 @@ fn refuses_units_of_another_form(rt: HostRuntime) {
         b"__kernel void k(__global uint*a){a[get_global_id(0)]=get_global_id(1);}",
         b"__kernel void k(__global uint*a){a[get_global_id(1)]=0;}",
         b"__kernel void a(__global uint*a){a[get_global_id(0)]=0;}",
-        b"__kernel void k(__global uint*a){b[get_global_id(0)]=0;}",
         b"__kernel void K(__global uint*a){a[get_global_id(0)]=0;}",
         b"__kernel void kk(__global uint*a){a[get_global_id(0)]=0;}",
         b"kernel void k(__global uint*a){a[get_global_id(0)]=0;}",

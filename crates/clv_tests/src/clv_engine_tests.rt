@@ -62,6 +62,18 @@ fn answers_by_its_table(rt: HostRuntime) -> Result<(), Fail> {
             printed: "source 201 1:1\n",
         },
         Case {
+            words: &["compile", "k.cl", "k.spv"],
+            source: "__kernel void k(__global int*a){a[0]=zz;}",
+            status: 1,
+            printed: "source 301 1:38\n",
+        },
+        Case {
+            words: &["compile", "k.cl", "k.spv"],
+            source: "__kernel void k(__global int*a){a[0]=1;}",
+            status: 1,
+            printed: "source 900 1:1\n",
+        },
+        Case {
             words: &[],
             source: KERNEL,
             status: 2,

@@ -9,4 +9,6 @@ mod clv_engine_front_tests;
 #[cfg(test)]
 mod clv_engine_tests;
 #[cfg(test)]
+mod clv_engine_typing_tests;
+#[cfg(test)]
 mod clv_io_tests;
