@@ -13,12 +13,10 @@ done
 [ -x "$program" ] || { echo "skipped: no $program (README.md says how to build it)"; exit 0; }
 folder=$(mktemp -d)
 trap 'rm -rf "$folder"' EXIT
-exec python3 - "$program" "$folder" <<'PYTHON'
-import subprocess
+PYTHONDONTWRITEBYTECODE=1 PYTHONPATH=bench python3 - "$program" "$folder" <<'PYTHON'
 import sys
-import time
 
-program, folder = sys.argv[1:]
+from beside_clang import Judging
 
 KERNEL = """
 /* Sums rows of a matrix, with a weight for each column, and keeps the greatest.
@@ -60,48 +58,16 @@ def text(size):
     while True:
         part = KERNEL % {"n": len(parts)}
         if length + len(part) > size:
-            break
+            return "".join(parts)
         parts.append(part)
         length += len(part)
-    name = "%s/%d.cl" % (folder, size)
-    with open(name, "w") as file:
-        file.write("".join(parts))
-    return name
 
 
-def least(wanted, *command):
-    """The least of fifteen times, in seconds."""
-    times = []
-    for _ in range(15):
-        start = time.perf_counter()
-        done = subprocess.run(command, stdout=subprocess.PIPE, stderr=subprocess.PIPE, text=True)
-        times.append(time.perf_counter() - start)
-        if done.returncode != wanted:
-            sys.exit("failed: %s\n%s%s" % (" ".join(command), done.stdout, done.stderr))
-    return min(times)
-
-
-def ours(name):
-    command = [program, "compile", name, folder + "/out.spv"]
-    said = subprocess.run(command, stdout=subprocess.PIPE, text=True).stdout
-    if said != "source 900 1:1\n":
-        sys.exit("failed: %s isn't judged whole: %s" % (name, said))
-    return least(1, *command)
-
-
-def theirs(name):
-    return least(0, "clang", "-cl-std=CL1.2", "-fsyntax-only", "-x", "cl", name)
-
-
-small = folder + "/small.cl"
-with open(small, "w") as file:
-    file.write("__kernel void k(__global int*a){}")
-base, other_base = ours(small), theirs(small)
+judging = Judging(*sys.argv[1:], runs=15)
 print("%8s %9s %9s %8s" % ("bytes", "clv s", "clang s", "ratio"))
 rows = []
 for size in (1 << 18, 1 << 19, 1 << 20):
-    name = text(size)
-    mine, other = ours(name) - base, theirs(name) - other_base
+    mine, other = judging.times(size, text(size))
     rows.append(mine)
     print("%8d %9.3f %9.3f %8.2f" % (size, mine, other, mine / other))
 print("512 KiB take %.2f times 256 KiB, and 1 MiB %.2f times 512 KiB" % (rows[1] / rows[0], rows[2] / rows[1]))

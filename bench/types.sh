@@ -13,12 +13,11 @@ done
 [ -x "$program" ] || { echo "skipped: no $program (README.md says how to build it)"; exit 0; }
 folder=$(mktemp -d)
 trap 'rm -rf "$folder"' EXIT
-exec python3 - "$program" "$folder" <<'PYTHON'
-import subprocess
+PYTHONDONTWRITEBYTECODE=1 PYTHONPATH=bench python3 - "$program" "$folder" <<'PYTHON'
 import sys
-import time
 
-program, folder = sys.argv[1:]
+from beside_clang import Judging
+
 TOKENS = 262144 - 64
 
 KERNEL = "__kernel void k(__global int*a){"
@@ -64,46 +63,13 @@ def kernels(n):
     return "".join(parts)
 
 
-def least(wanted, *command):
-    """The least of seven times, in seconds."""
-    times = []
-    for _ in range(7):
-        start = time.perf_counter()
-        done = subprocess.run(command, stdout=subprocess.PIPE, stderr=subprocess.PIPE, text=True)
-        times.append(time.perf_counter() - start)
-        if done.returncode != wanted:
-            sys.exit("failed: %s\n%s%s" % (" ".join(command), done.stdout[:400], done.stderr[:400]))
-    return min(times)
-
-
-def ours(name):
-    command = [program, "compile", name, folder + "/out.spv"]
-    said = subprocess.run(command, stdout=subprocess.PIPE, text=True).stdout
-    if said != "source 900 1:1\n":
-        sys.exit("failed: %s isn't judged whole: %s" % (name, said))
-    return least(1, *command)
-
-
-def theirs(name):
-    return least(0, "clang", "-cl-std=CL1.2", "-fsyntax-only", "-w", "-x", "cl", name)
-
-
-def written(name, text):
-    path = folder + "/" + name + ".cl"
-    with open(path, "w") as file:
-        file.write(text)
-    return path
-
-
-small = written("small", KERNEL + "}")
-base, other_base = ours(small), theirs(small)
+judging = Judging(*sys.argv[1:], runs=7)
 print("%-14s %8s %9s %9s %8s %7s" % ("text", "tokens", "clv s", "clang s", "ratio", "growth"))
 steep = []
 for shape in (declarations, blocks, functions, types, lists, kernels):
     before = None
     for tokens in (TOKENS // 4, TOKENS // 2, TOKENS):
-        name = written("%s_%d" % (shape.__name__, tokens), shape(tokens))
-        mine, other = ours(name) - base, theirs(name) - other_base
+        mine, other = judging.times("%s_%d" % (shape.__name__, tokens), shape(tokens))
         growth = mine / before if before else 0.0
         print("%-14s %8d %9.3f %9.3f %8.2f %7s" % (shape.__name__, tokens, mine, other, mine / other, "%.2f" % growth if before else ""))
         before = mine
