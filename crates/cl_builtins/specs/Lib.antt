@@ -3,3 +3,4 @@ pub mod Forms
 pub mod Kinds
 pub mod Names
 pub mod Tables
+pub mod Values

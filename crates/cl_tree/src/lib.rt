@@ -3,6 +3,7 @@
 #![tactic(auto)]
 
 pub mod constant;
+pub mod event;
 pub mod expression;
 pub mod shape;
 pub mod statement;
@@ -10,6 +11,7 @@ pub mod tree;
 pub mod unit;
 
 pub use constant::{Constancy, Operands};
+pub use event::{Answer, Event, NodeId, Outcome, Shared, Spot};
 pub use expression::{Facts, TExpr, TNode};
 pub use shape::{Shape, promoted, relation_type, same_space};
 pub use statement::{Section, TStmt, TStmtNode};

@@ -5,6 +5,8 @@
 #[cfg(test)]
 mod cl_builtins_tests;
 #[cfg(test)]
+mod cl_builtins_value_tests;
+#[cfg(test)]
 mod cl_constants_tests;
 #[cfg(test)]
 mod cl_rules_tests;
