@@ -3,7 +3,7 @@ use Rattle.std.proofs.Common.{◌≡◌, ℕ, ◌+◌, ◌*◌, ◌^◌, ◌<◌
 use Rattle.clv_steps.specs.Machines.{Status, Runs, Ends, Fails, after}
 use Rattle.clv_steps.proofs.Quiet.{Quietly, stays, goes, and_then}
 use Rattle.clv_worlds.specs.Worlds.{World, WaitsAt, IsWrong, fails, denied, mismatched, IsDefined}
-use Rattle.clv_worlds.proofs.Statuses.{asks_fails}
+use Rattle.clv_steps.proofs.Statuses.{asks_fails}
 use Rattle.clv_engine.specs.declared.form.Kernel.{Kernel}
 use Rattle.clv_engine.specs.declared.form.Term.{Term}
 use Rattle.clv_engine.specs.FirstForm.{IsTerm, IsKernel}

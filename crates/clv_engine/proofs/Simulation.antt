@@ -1,17 +1,17 @@
 -- Each invocation of a kernel's module does what its work-item does.
 use Rattle.std.proofs.Common.{◌≡◌, ℕ, ◌+◌, ◌-◌, ◌*◌, ◌/◌, ◌%◌, ◌^◌, ◌<◌, ◌≤◌, List, [], length, Some, None, refl, sym, ap, ◌∙◌, subst, arith, inl, inr, All, option_map}
 use Rattle.std.proofs.lemmas.Bool.{lt-ltb}
-use Rattle.clv_steps.specs.Runs.{Follows}
+use Rattle.clv_steps.specs.Runs.{counted, valued, Follows}
 use Rattle.clv_worlds.specs.Simulation.{Serves}
 use Rattle.clv_worlds.proofs.Simulated.{simulated}
-use Rattle.clv_steps.proofs.Follow.{Goes, wrong, ended, asks, follows}
+use Rattle.clv_steps.proofs.Follow.{Goes, wrong, ended, asks, at_credit, follows}
 use Rattle.clv_steps.proofs.Moments.{moments}
 use Rattle.clv_engine.specs.declared.form.Kernel.{Kernel}
 use Rattle.clv_engine.specs.declared.id.TheConstants as id
 use Rattle.clv_engine.specs.FirstForm.{IsTerm, IsKernel}
 use Rattle.launch_text.specs.Rules.{LoadedLaunch}
 use Rattle.launch_text.specs.WorkItems.{place_in}
-use Rattle.clv_engine.specs.SourceItem.{Item, item, Surroundings, source_item, first_state}
+use Rattle.clv_engine.specs.SourceItem.{Item, item, Surroundings, source_item, weight, first_state}
 use Rattle.clv_engine.specs.Emitted.{body_of}
 use Rattle.spv_reflect.specs.declared.rows.ArgKindRow.TheVariants.{Buffer as BufferRow}
 use Rattle.spv_meaning.specs.Start.{Start}
@@ -25,7 +25,7 @@ use Rattle.spv_meaning.specs.Invocation.{Run, run, over, Given, place_after, inv
 use Rattle.spv_meaning.specs.Invocation.{given_of}
 use Rattle.clv_engine.specs.Promises.{Fits, surroundings_of, in_function, ItemSimulation}
 use Rattle.clv_engine.proofs.NumberTests.{less_or_not}
-use Rattle.clv_steps.proofs.Quiet.{Quietly, worth, at_credit, source_quiet, target_quiet}
+use Rattle.clv_steps.proofs.Quiet.{Quietly, source_quiet, target_quiet}
 use Rattle.clv_engine.proofs.Places.{lies_found}
 use Rattle.clv_engine.proofs.Launches.{HasBuffer, has_buffer, global_id_is, global_id_within, start_for, start_only}
 use Rattle.clv_engine.proofs.Defined.{each_defined}
@@ -40,13 +40,13 @@ record Left (g : Given) (c : ℕ) (i : Item) (r : Run) : Type 0 where
 
 -- From an item and a run on, with so many instructions paid for, both come to where they ask the same write.
 abbrev GoesOn : Surroundings → Given → ℕ → ℕ → Item → Run → Type 0
-GoesOn s g f c i r = Goes (source_item s) (invocation g) (in_function f) (worth 256) 256 (Left g) c i r
+GoesOn s g f c i r = Goes (source_item s) (invocation g) (in_function f) (valued weight 256) (counted (λ z. 1)) (Left g) c i r
 
 item_alone : (s : Surroundings) (g : Given) (f n c : ℕ) (i j : Item) (r : Run) → Quietly (source_item s) n i j → GoesOn s g f (c + n * 256) j r → GoesOn s g f c i r
-item_alone s g f n c i j r q go = source_quiet (source_item s) (invocation g) (in_function f) 256 256 (Left g) n c i j r q go
+item_alone s g f n c i j r q go = source_quiet (source_item s) (invocation g) (in_function f) 256 (counted (λ z. 1)) (Left g) n c i j r q go
 
 run_alone : (s : Surroundings) (g : Given) (f n c : ℕ) (i : Item) (r q : Run) → n ≤ c → Quietly (invocation g) n r q → GoesOn s g f (c - n) i q → GoesOn s g f c i r
-run_alone s g f n c i r q low runs go = at_credit (n + (c - n)) c (omega (arith, low)) (target_quiet (source_item s) (invocation g) (in_function f) 256 256 (Left g) n (c - n) i r q runs go)
+run_alone s g f n c i r q low runs go = at_credit (n + (c - n)) c (omega (arith, low)) (target_quiet (source_item s) (invocation g) (in_function f) (valued weight 256) (Left g) n (c - n) i r q runs go)
 
 left_goes : (s : Surroundings) (g : Given) (f c : ℕ) (i : Item) (r : Run) → Left g c i r → GoesOn s g f c i r
 left_goes s g f c i r l =
@@ -82,17 +82,14 @@ index_goes k s g f p c b paid = elim (less_or_not s.size (0 + 4 * s.global_id 0)
       item_alone s g f q.0 c (at_index s k.terms) (at_store s k.terms) (run f p [] []) q.2 (store_goes k s g f p (c + q.0 * 256) b (omega (arith, enough, paid)))
 ]
 
-worth_most : (i : Item) → worth 256 i ≤ 256
-worth_most i = omega arith
-
-both_follow : (k : Kernel) (s : Surroundings) (g : Given) (f p : ℕ) → Both k s g f p → Follows (source_item s) (invocation g) (in_function f) (worth 256) 256 (first_state k) (run f p [] [])
+both_follow : (k : Kernel) (s : Surroundings) (g : Given) (f p : ℕ) → Both k s g f p → Follows (source_item s) (invocation g) (in_function f) (valued weight 256) (counted (λ z. 1)) (first_state k) (run f p [] [])
 both_follow k s g f p b =
     let begin = item_alone s g f 9 256 (first_state k) (at_index s k.terms) (run f p [] []) (to_index s k) (index_goes k s g f p (256 + 9 * 256) b (omega arith)) in
-    follows (source_item s) (invocation g) (in_function f) (worth 256) 256 (Left g) (left_goes s g f) (first_state k) (run f p [] []) begin
+    follows (source_item s) (invocation g) (in_function f) (valued weight 256) (counted (λ z. 1)) (Left g) (left_goes s g f) 256 (first_state k) (run f p [] []) (omega arith) begin
 
 -- the item's invocation follows it
 abbrev ItemFollows : Kernel → LoadedLaunch → Start → ℕ → Type 0
-ItemFollows k l start n = Follows (source_item (surroundings_of l n)) (invocation (given_of (body_of k) start n)) (in_function start.function) (worth 256) 256 (first_state k) (first_run (given_of (body_of k) start n))
+ItemFollows k l start n = Follows (source_item (surroundings_of l n)) (invocation (given_of (body_of k) start n)) (in_function start.function) (valued weight 256) (counted (λ z. 1)) (first_state k) (first_run (given_of (body_of k) start n))
 
 -- the launch's side
 start_is : (k : Kernel) (l : LoadedLaunch) (b : HasBuffer l) → IsStart (start_for k l) b.file (length b.bytes)
@@ -134,18 +131,16 @@ item_follows k l start n kernel f b = subst (λ at. ItemFollows k l at n) (start
 
 pub item_simulation : (k : Kernel) → IsKernel k → ItemSimulation (body_of k) k
 item_simulation k kernel = record {
-  serves = λ l start n f b low. moments (source_item (surroundings_of l n)) (invocation (given_of (body_of k) start n)) (in_function start.function) (worth 256) 256 256 (first_state k) (first_run (given_of (body_of k) start n)) worth_most (omega arith) (item_follows k l start n kernel f b);
+  serves = λ l start n f b low. moments (source_item (surroundings_of l n)) (invocation (given_of (body_of k) start n)) (in_function start.function) weight 256 (first_state k) (first_run (given_of (body_of k) start n)) (item_follows k l start n kernel f b);
 }
 
 -- nothing is a barrier
 no_chain : {A : Type 0} (k : List ℕ) → None ≡ Some k → A
 no_chain k e = absurd (let c : None ≡ Some k = e in cc)
 
-worlds_serve : (k : Kernel) (l : LoadedLaunch) (start : Start) → IsKernel k → Fits k l → BindsTo (body_of k) l start → Serves (shared_of l) (source_world k l start.function) (module_world (body_of k) start) (worth 256) 256 256
+worlds_serve : (k : Kernel) (l : LoadedLaunch) (start : Start) → IsKernel k → Fits k l → BindsTo (body_of k) l start → Serves (shared_of l) (source_world k l start.function) (module_world (body_of k) start) 256
 worlds_serve k l start kernel f b = record {
   follows = λ n low. item_follows k l start n kernel f b;
-  costs = worth_most;
-  leads = omega arith;
   words = λ asked. refl;
   chain = λ chain. chain;
   meets = λ asked chain e. no_chain chain e;
@@ -156,6 +151,6 @@ worlds_serve k l start kernel f b = record {
 
 pub world_simulation : (k : Kernel) → IsKernel k → WorldSimulation (body_of k) k
 world_simulation k kernel = record {
-  worlds = λ l start f b defined. simulated (shared_of l) (source_world k l start.function) (module_world (body_of k) start) (worth 256) 256 256 (worlds_serve k l start kernel f b) l.buffers defined;
+  worlds = λ l start f b defined. simulated (shared_of l) (source_world k l start.function) (module_world (body_of k) start) 256 (worlds_serve k l start kernel f b) l.buffers defined;
   defined = λ l function f room. each_defined k l function kernel f room;
 }

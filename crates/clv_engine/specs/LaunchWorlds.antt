@@ -9,7 +9,7 @@ use Rattle.spv_meaning.specs.Start.{Start}
 use Rattle.spv_meaning.specs.Worlds.{Buffers, shared_over, no_gate, module_world}
 use Rattle.vk_bind.specs.Binding.{BindsTo}
 use Rattle.clv_engine.specs.declared.form.Kernel.{Kernel}
-use Rattle.clv_engine.specs.SourceItem.{Item, source_item, first_state}
+use Rattle.clv_engine.specs.SourceItem.{Item, source_item, weight, first_state}
 use Rattle.clv_engine.specs.Promises.{Fits, surroundings_of, in_function}
 
 -- The items share the buffers of the launch.
@@ -18,7 +18,7 @@ shared_of l = shared_over l.global l.local
 
 -- The source world. The id is that of the function under which the kernel's questions are seen; it changes nothing else.
 abbrev pub source_world : Kernel → LoadedLaunch → ℕ → Program Item Asked Asked
-source_world k l function = record { machine = λ item. source_item (surroundings_of l item); start = λ item. first_state k; word = in_function function; gate = no_gate; takes_any = false }
+source_world k l function = record { machine = λ item. source_item (surroundings_of l item); start = λ item. first_state k; weight = weight; word = in_function function; gate = no_gate; takes_any = false }
 
 -- The first argument's buffer has an element of four bytes for each place along x. Each item sees the same buffer, so the first item's stands for all.
 abbrev pub HasRoom : LoadedLaunch → Type 0

@@ -11,7 +11,7 @@ use Rattle.spv_meaning.specs.Events.{Asked}
 use Rattle.spv_meaning.specs.Start.{Start}
 use Rattle.spv_meaning.specs.Invocation.{invocation, first_run, given_of}
 use Rattle.vk_bind.specs.Binding.{BindsTo, takes_in}
-use Rattle.clv_engine.specs.SourceItem.{Surroundings, source_item, first_state}
+use Rattle.clv_engine.specs.SourceItem.{Surroundings, source_item, weight, first_state}
 
 -- A launch fits the kernel: it names it (L10), and keeps the rules for what it takes, a pointer to elements of four bytes.
 pub record Fits (k : Kernel) (l : LoadedLaunch) : Type 0 where
@@ -37,7 +37,7 @@ in_function function asked = record { function = function; event = asked.event }
 abbrev pub ItemServes : List Inst → Kernel → LoadedLaunch → Start → ℕ → Type 0
 ItemServes body k l start item =
     let given = given_of body start item in
-    Simulates (source_item (surroundings_of l item)) (invocation given) (in_function start.function) 256 (first_state k) (first_run given)
+    Simulates (source_item (surroundings_of l item)) (invocation given) (in_function start.function) weight 256 (first_state k) (first_run given)
 
 -- Binding agrees: a launch binds to the module exactly where it fits the kernel, and else breaks there the rule that it breaks for the kernel, at the same argument.
 pub record BindingAgrees (body : List Inst) (k : Kernel) : Type 0 where

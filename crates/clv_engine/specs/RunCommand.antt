@@ -116,7 +116,7 @@ pub record TakesTooMuch (m : Module) (l : LoadedLaunch) : Type 0 where
 
 -- Where no run of the source comes to what is undefined, a complete run of it leaves these buffers, in at least a 256th of the steps.
 pub record IsServed (k : Kernel) (l : LoadedLaunch) (function steps : ℕ) (buffers : Buffers) : Type 0 where
-  pub by_source : IsDefined (shared_of l) (source_world k l function) l.buffers → (u : World Asked Buffers) × Leads (shared_of l) (source_world k l function) (opening l.buffers) u × IsComplete (shared_of l) (source_world k l function) u × (u.memory ≡ buffers) × (steps ≤ 256 * steps_of (shared_of l).count u.items)
+  pub by_source : IsDefined (shared_of l) (source_world k l function) l.buffers → (u : World Asked Buffers) × Leads (shared_of l) (source_world k l function) (opening l.buffers) u × IsComplete (shared_of l) (source_world k l function) u × (u.memory ≡ buffers) × (steps ≤ 256 * steps_of (source_world k l function) (shared_of l).count u.items)
 
 -- ---- what is stored
 

@@ -113,5 +113,9 @@ move s i = i
 abbrev pub source_item : Surroundings → Machine Item Asked
 source_item s = record { status = status s; next = λ x i. move s i }
 
+-- each task is a step
+abbrev pub weight : Item → ℕ
+weight i = 1
+
 abbrev pub first_state : Kernel → Item
 first_state k = item (kernel_tasks k) []

@@ -1,9 +1,10 @@
--- Straight lines: steps of a machine's own, whatever numbers they are given.
+-- Straight lines: moves of a machine's own, whatever numbers they are given.
 use Rattle.std.proofs.Common.{◌≡◌, ℕ, suc, ◌+◌, ◌*◌, sym, subst, arith}
 use Rattle.clv_steps.specs.Machines.{Runs, Machine}
-use Rattle.clv_steps.proofs.Follow.{Goes, quiet, skips}
+use Rattle.clv_steps.specs.Runs.{Meter, counted, valued}
+use Rattle.clv_steps.proofs.Follow.{Goes, quiet, skips, at_credit}
 
--- n such steps lead from the first state to the second
+-- n such moves lead from the first state to the second
 pub data Quietly {S E : Type 0} (m : Machine S E) : ℕ → S → S → Type 0 where
   stays : (s : S) → Quietly m 0 s s
   goes : (n : ℕ) (s u v : S) → m.status s ≡ Runs → ((x : ℕ) → m.next x s ≡ u) → Quietly m n u v → Quietly m (suc n) s v
@@ -18,23 +19,16 @@ and_then m _ b _ _ v (goes n s t u e f q) r = at_count (suc (n + b)) (suc n + b)
 pub one_more : {S E : Type 0} (m : Machine S E) (n : ℕ) (s u v : S) → m.status u ≡ Runs → ((x : ℕ) → m.next x u ≡ v) → Quietly m n s u → Quietly m (n + 1) s v
 one_more m n s u v e f q = and_then m n 1 s u v q (goes 0 u v v e f (stays v))
 
--- a step of the source is worth so many of the target's
-abbrev pub worth : {S : Type 0} → ℕ → S → ℕ
-worth n s = n
+-- the source alone, where each of its moves is a step
+pub source_quiet : {S T E F : Type 0} (a : Machine S E) (b : Machine T F) (word : E → F) (worth : ℕ) (due : Meter T) (R : ℕ → S → T → Type 0) (n c : ℕ) (s u : S) (t : T) → Quietly a n s u → Goes a b word (valued (λ z. 1) worth) due R (c + n * worth) u t → Goes a b word (valued (λ z. 1) worth) due R c s t
+source_quiet a b word worth due R _ c _ u t (stays s) g = at_credit (c + 0 * worth) c (omega arith) g
+source_quiet a b word worth due R _ c _ u t (goes n s v w e f q) g =
+    let behind = source_quiet a b word worth due R n (c + worth) v w t q (at_credit (c + suc n * worth) (c + worth + n * worth) (omega arith) g) in
+    skips c (c + worth) 0 s t e (subst (λ z. Goes a b word (valued (λ y. 1) worth) due R (c + worth) z t) (sym (f 0)) behind) (omega arith)
 
-pub at_credit : {S T E F : Type 0} {a : Machine S E} {b : Machine T F} {word : E → F} {cost : S → ℕ} {lead : ℕ} {R : ℕ → S → T → Type 0} {s : S} {t : T} (c d : ℕ) → c ≡ d → Goes a b word cost lead R c s t → Goes a b word cost lead R d s t
-at_credit {a = a} {b = b} {word = word} {cost = cost} {lead = lead} {R = R} {s = s} {t = t} c d e g = subst (λ n. Goes a b word cost lead R n s t) e g
-
--- the source alone
-pub source_quiet : {S T E F : Type 0} (a : Machine S E) (b : Machine T F) (word : E → F) (each lead : ℕ) (R : ℕ → S → T → Type 0) (n c : ℕ) (s u : S) (t : T) → Quietly a n s u → Goes a b word (worth each) lead R (c + n * each) u t → Goes a b word (worth each) lead R c s t
-source_quiet a b word each lead R _ c _ u t (stays s) g = at_credit (c + 0 * each) c (omega arith) g
-source_quiet a b word each lead R _ c _ u t (goes n s v w e f q) g =
-    let behind = source_quiet a b word each lead R n (c + each) v w t q (at_credit (c + suc n * each) (c + each + n * each) (omega arith) g) in
-    skips c (c + each) 0 s t e (subst (λ z. Goes a b word (worth each) lead R (c + each) z t) (sym (f 0)) behind) (omega arith)
-
--- the target alone
-pub target_quiet : {S T E F : Type 0} (a : Machine S E) (b : Machine T F) (word : E → F) (each lead : ℕ) (R : ℕ → S → T → Type 0) (n c : ℕ) (s : S) (t u : T) → Quietly b n t u → Goes a b word (worth each) lead R c s u → Goes a b word (worth each) lead R (n + c) s t
-target_quiet a b word each lead R _ c s _ u (stays t) g = at_credit c (0 + c) (omega arith) g
-target_quiet a b word each lead R _ c s _ u (goes n t v w e f q) g =
-    let behind = target_quiet a b word each lead R n c s v w q g in
-    at_credit (suc (n + c)) (suc n + c) (omega arith) (quiet (n + c) s t e (λ x. subst (λ z. Goes a b word (worth each) lead R (n + c) s z) (sym (f x)) behind))
+-- the target alone, where each of its moves is a step
+pub target_quiet : {S T E F : Type 0} (a : Machine S E) (b : Machine T F) (word : E → F) (pay : Meter S) (R : ℕ → S → T → Type 0) (n c : ℕ) (s : S) (t u : T) → Quietly b n t u → Goes a b word pay (counted (λ z. 1)) R c s u → Goes a b word pay (counted (λ z. 1)) R (n + c) s t
+target_quiet a b word pay R _ c s _ u (stays t) g = at_credit c (0 + c) (omega arith) g
+target_quiet a b word pay R _ c s _ u (goes n t v w e f q) g =
+    let behind = target_quiet a b word pay R n c s v w q g in
+    quiet (suc n + c) (λ x. n + c) s t e (λ x. subst (λ z. Goes a b word pay (counted (λ y. 1)) R (n + c) s z) (sym (f x)) behind) (λ x. omega arith)

@@ -1,5 +1,5 @@
 pub mod Picks
-pub mod Statuses
+pub mod Steps
 pub mod Lift
 pub mod Mismatch
 pub mod Stuck

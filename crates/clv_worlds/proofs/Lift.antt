@@ -2,36 +2,32 @@
 use Rattle.std.proofs.Common.{◌≡◌, ℕ, zero, suc, ◌<◌, ◌≤◌, ◌⊎◌, inl, inr, true, false, List, [], ◌∷◌, ◌++◌, refl, sym, ap, ◌∙◌, subst, arith, append_assoc}
 use Rattle.std.proofs.lemmas.Bool.{cases_eq, cases_lt}
 use Rattle.std.proofs.lemmas.List.{append-nil}
-use Rattle.clv_steps.specs.Machines.{Runs, Asks, Fails, Machine, after, told_by, told, IsLive, IsLegal, in_words}
-use Rattle.clv_steps.specs.Runs.{Matches, Broke, Keeps}
-use Rattle.clv_steps.proofs.Append.{after_append, told_append, legal_append, words_append}
+use Rattle.clv_steps.specs.Machines.{Runs, Asks, Fails, after, told_by, told, IsLive, IsLegal, in_words}
+use Rattle.clv_steps.specs.Runs.{Matches, Broke, counted, valued, Keeps}
+use Rattle.clv_steps.proofs.Append.{after_append, told_append, legal_append, legal_behind, words_append}
 use Rattle.clv_worlds.specs.Worlds.{with_item, freed, Shared, Program, Did, Opened, World, state, WaitsAt, AsksMemory, answered, Moves, own, does, takes, opens, Leads, here, onward, opening, IsDefined, fails, denied}
 use Rattle.clv_worlds.specs.Simulation.{Serves}
 use Rattle.clv_worlds.proofs.Picks.{pick_same, pick_other, pick_either, pick_pairs, none_behind, front_behind}
-use Rattle.clv_worlds.proofs.Statuses.{asks_fails, matches_asks, words_none, runs_of}
+use Rattle.clv_steps.proofs.Statuses.{asks_fails, matches_asks, words_none, runs_of}
 
 pub onto : {S E F M : Type 0} (l : Shared F M) (p : Program S E F) (u v w : World F M) → Leads l p u v → Leads l p v w → Leads l p u w
 onto l p u v _ g (here w) = g
 onto l p u v _ g (onward _ x y h m) = onward u x y (onto l p u v x g h) m
 
-legal_behind : {S E : Type 0} (m : Machine S E) (g h : List ℕ) (z : S) → IsLegal m (g ++ h) z → IsLegal m h (after m g z)
-legal_behind m [] h z k = k
-legal_behind m (x ∷ g) h z k = legal_behind m g h (m.next x z) k.1
-
 -- A world of the source in which each item keeps up with the target's.
-pub record Beside {S E T F M : Type 0} (l : Shared F M) (a : Program S E F) (b : Program T F F) (cost : S → ℕ) (lead : ℕ) (m : M) (v : World F M) : Type 0 where
+pub record Beside {S E T F M : Type 0} (l : Shared F M) (a : Program S E F) (b : Program T F F) (worth : ℕ) (m : M) (v : World F M) : Type 0 where
   pub world : World F M
   pub run : Leads l a (opening m) world
   pub memory : world.memory ≡ v.memory
   pub log : world.log ≡ v.log
-  pub keeps : (i : ℕ) → i < l.count → Keeps (a.machine i) (b.machine i) a.word cost lead (a.start i) (b.start i) (world.items i) (v.items i)
+  pub keeps : (i : ℕ) → i < l.count → Keeps (a.machine i) (b.machine i) a.word (valued a.weight worth) (counted b.weight) (a.start i) (b.start i) (world.items i) (v.items i)
 
-module _ {S E T F M : Type 0} (l : Shared F M) (a : Program S E F) (b : Program T F F) (cost : S → ℕ) (lead worth : ℕ) (s : Serves l a b cost lead worth) (m : M) (defined : IsDefined l a m) where
+module _ {S E T F M : Type 0} (l : Shared F M) (a : Program S E F) (b : Program T F F) (worth : ℕ) (s : Serves l a b worth) (m : M) (defined : IsDefined l a m) where
   -- what is known of a choice of an item's histories
   record Chooses (i : ℕ) (choose : List ℕ → List ℕ) : Type 0 where
     grows : (h : List ℕ) (x : ℕ) → (more : List ℕ) × (choose (h ++ x ∷ []) ≡ choose h ++ more)
     legal : (h : List ℕ) → IsLegal (b.machine i) h (b.start i) → IsLegal (a.machine i) (choose h) (a.start i)
-    serves : (h : List ℕ) → IsLegal (b.machine i) h (b.start i) → Broke (a.machine i) (b.machine i) a.word (a.start i) (b.start i) (choose h) h ⊎ Keeps (a.machine i) (b.machine i) a.word cost lead (a.start i) (b.start i) (choose h) h
+    serves : (h : List ℕ) → IsLegal (b.machine i) h (b.start i) → Broke (a.machine i) (b.machine i) a.word (a.start i) (b.start i) (choose h) h ⊎ Keeps (a.machine i) (b.machine i) a.word (valued a.weight worth) (counted b.weight) (a.start i) (b.start i) (choose h) h
 
   choice : (i : ℕ) → (choose : List ℕ → List ℕ) × (i < l.count → Chooses i choose)
   choice i = elim (cases_lt i l.count) [
@@ -141,8 +137,8 @@ module _ {S E T F M : Type 0} (l : Shared F M) (a : Program S E F) (b : Program 
     | inr k ↦ record { rest = []; asked = k.asked ∙ sym (append-nil _); why = inl refl }
   ]
 
-  kept_at : (u v : World F M) (i : ℕ) → Leads l a (opening m) u → i < l.count → Equal u v → Keeps (a.machine i) (b.machine i) a.word cost lead (a.start i) (b.start i) (u.items i) (v.items i)
-  kept_at u v i run low e = subst (λ g. Keeps (a.machine i) (b.machine i) a.word cost lead (a.start i) (b.start i) g (v.items i)) (sym (e.items i low)) (elim ((chooses i low).serves (v.items i) (e.legal i low)) [
+  kept_at : (u v : World F M) (i : ℕ) → Leads l a (opening m) u → i < l.count → Equal u v → Keeps (a.machine i) (b.machine i) a.word (valued a.weight worth) (counted b.weight) (a.start i) (b.start i) (u.items i) (v.items i)
+  kept_at u v i run low e = subst (λ g. Keeps (a.machine i) (b.machine i) a.word (valued a.weight worth) (counted b.weight) (a.start i) (b.start i) g (v.items i)) (sym (e.items i low)) (elim ((chooses i low).serves (v.items i) (e.legal i low)) [
     | inl w ↦ absurd (defined u run (fails i low (ap (λ g. (a.machine i).status (after (a.machine i) g (a.start i))) (e.items i low) ∙ w.fails)))
     | inr k ↦ k
   ])
@@ -320,7 +316,7 @@ module _ {S E T F M : Type 0} (l : Shared F M) (a : Program S E F) (b : Program 
       let f = one_move q.world v w q.run q.equal_to move in
       record { world = f.world; run = onto l a (opening m) q.world f.world q.run f.run; equal_to = f.equal_to }
 
-  pub lifted : (v : World F M) → Leads l b (opening m) v → Beside l a b cost lead m v
+  pub lifted : (v : World F M) → Leads l b (opening m) v → Beside l a b worth m v
   lifted v run =
       let q = all_moves (opening m) v refl run in
       record {

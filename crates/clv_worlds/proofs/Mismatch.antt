@@ -4,9 +4,9 @@ use Rattle.clv_steps.specs.Machines.{Asks}
 use Rattle.clv_steps.specs.Runs.{Matches}
 use Rattle.clv_worlds.specs.Worlds.{Shared, Program, World, state, WaitsAt, IsMismatched}
 use Rattle.clv_worlds.specs.Simulation.{Serves}
-use Rattle.clv_worlds.proofs.Statuses.{asks_same, asks_ends, matches_asks, matches_ends}
+use Rattle.clv_steps.proofs.Statuses.{asks_same, asks_ends, matches_asks, matches_ends}
 
-module _ {S E T F M : Type 0} (l : Shared F M) (a : Program S E F) (b : Program T F F) (cost : S → ℕ) (lead worth : ℕ) (s : Serves l a b cost lead worth) (u v : World F M) (stands : (i : ℕ) → i < l.count → Matches a.word ((a.machine i).status (state a u i)) ((b.machine i).status (state b v i))) where
+module _ {S E T F M : Type 0} (l : Shared F M) (a : Program S E F) (b : Program T F F) (worth : ℕ) (s : Serves l a b worth) (u v : World F M) (stands : (i : ℕ) → i < l.count → Matches a.word ((a.machine i).status (state a u i)) ((b.machine i).status (state b v i))) where
   -- the question of the source at which the target's item waits
   record Meets (i : ℕ) (chain : List ℕ) : Type 0 where
     event : E

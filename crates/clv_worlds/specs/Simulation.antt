@@ -1,13 +1,11 @@
 -- The items of one program do together what those of another do.
-use Rattle.std.specs.Prelude.{◌≡◌, ℕ, ◌+◌, ◌*◌, ◌<◌, ◌≤◌, List, length, Some, None, false}
-use Rattle.clv_steps.specs.Runs.{Follows}
-use Rattle.clv_worlds.specs.Worlds.{Shared, Program, World, Leads, opening, IsWrong, IsStuck, IsComplete, steps_of}
+use Rattle.std.specs.Prelude.{◌≡◌, ℕ, ◌+◌, ◌*◌, ◌<◌, ◌≤◌, List, Some, None, false}
+use Rattle.clv_steps.specs.Runs.{counted, valued, Follows}
+use Rattle.clv_worlds.specs.Worlds.{Shared, Program, World, Leads, opening, IsWrong, IsStuck, IsComplete, item_steps, steps_of}
 
--- What is asked item by item. The target follows the source, whose steps are worth so many of its own; a barrier of the one is a barrier of the other, and two have one chain in the one exactly where they have in the other. The target asks in the memory's words. The source isn't answered where the memory denies.
-pub record Serves {S E T F M : Type 0} (l : Shared F M) (a : Program S E F) (b : Program T F F) (cost : S → ℕ) (lead worth : ℕ) : Type 0 where
-  pub follows : (i : ℕ) → i < l.count → Follows (a.machine i) (b.machine i) a.word cost lead (a.start i) (b.start i)
-  pub costs : (s : S) → cost s ≤ worth
-  pub leads : lead ≤ worth
+-- What is asked item by item. The target follows the source, each of whose steps is worth so many of its own; a barrier of the one is a barrier of the other, and two have one chain in the one exactly where they have in the other. The target asks in the memory's words. The source isn't answered where the memory denies.
+pub record Serves {S E T F M : Type 0} (l : Shared F M) (a : Program S E F) (b : Program T F F) (worth : ℕ) : Type 0 where
+  pub follows : (i : ℕ) → i < l.count → Follows (a.machine i) (b.machine i) a.word (valued a.weight worth) (counted b.weight) (a.start i) (b.start i)
   pub words : (f : F) → b.word f ≡ f
   pub chain : List ℕ → List ℕ
   pub meets : (e : E) (k : List ℕ) → b.gate (a.word e) ≡ Some k → a.gate e ≡ Some (chain k)
@@ -19,9 +17,9 @@ pub record Serves {S E T F M : Type 0} (l : Shared F M) (a : Program S E F) (b :
 pub record Agree {S E T F M : Type 0} (l : Shared F M) (a : Program S E F) (b : Program T F F) (worth : ℕ) (u v : World F M) : Type 0 where
   pub memory : u.memory ≡ v.memory
   pub log : u.log ≡ v.log
-  pub bound : (i : ℕ) → i < l.count → length (v.items i) ≤ worth * (length (u.items i) + 1)
+  pub bound : (i : ℕ) → i < l.count → item_steps b i (v.items i) ≤ worth * (item_steps a i (u.items i) + 1)
   pub complete : IsComplete l b v → IsComplete l a u
-  pub steps : IsComplete l b v → steps_of l.count v.items ≤ worth * steps_of l.count u.items
+  pub steps : IsComplete l b v → steps_of b l.count v.items ≤ worth * steps_of a l.count u.items
 
 -- World simulation, from one memory: no run of the target goes wrong or is stuck, and each is beside one of the source's.
 pub record Simulated {S E T F M : Type 0} (l : Shared F M) (a : Program S E F) (b : Program T F F) (worth : ℕ) (m : M) : Type 0 where

@@ -1,6 +1,6 @@
 -- Work-items over shared memory, in any order, with barriers of groups.
-use Rattle.std.specs.Prelude.{◌≡◌, ℕ, zero, suc, ◌+◌, ◌<◌, ◌⊎◌, Bool, true, false, List, [], ◌∷◌, ◌++◌, length, Option, Some, None}
-use Rattle.clv_steps.specs.Machines.{Runs, Asks, Ends, Fails, Machine, after}
+use Rattle.std.specs.Prelude.{◌≡◌, ℕ, zero, suc, ◌+◌, ◌<◌, ◌⊎◌, Bool, true, false, List, [], ◌∷◌, ◌++◌, Option, Some, None}
+use Rattle.clv_steps.specs.Machines.{Runs, Asks, Ends, Fails, Machine, after, paid}
 
 -- the first where the numbers are equal, and else the second
 abbrev pub pick : {A : Type 0} → ℕ → ℕ → A → A → A
@@ -24,10 +24,11 @@ pub record Shared (F M : Type 0) : Type 0 where
   pub reply : ℕ → F → M → ℕ
   pub leave : ℕ → F → ℕ → M → M
 
--- A program: each item's machine and first state, its questions in the memory's words, and the chain of places of a question that is a barrier. Whether a question that the memory denies is answered by any number, or not at all.
+-- A program: each item's machine and first state; what a move weighs, 1 where it is a step of the program's language and 0 where it is none; its questions in the memory's words, and the chain of places of a question that is a barrier. Whether a question that the memory denies is answered by any number, or not at all.
 pub record Program (S E F : Type 0) : Type 0 where
   pub machine : ℕ → Machine S E
   pub start : ℕ → S
+  pub weight : S → ℕ
   pub word : E → F
   pub gate : E → Option (List ℕ)
   pub takes_any : Bool
@@ -61,7 +62,7 @@ pub record AsksMemory {S E F M : Type 0} (p : Program S E F) (w : World F M) (i 
 abbrev pub answered : {S E F M : Type 0} → Shared F M → Program S E F → World F M → ℕ → E → ℕ → World F M
 answered l p w i e x = record { memory = l.leave i (p.word e) x w.memory; items = with_item i (w.items i ++ x ∷ []) w.items; log = w.log ++ Did i (p.word e) x ∷ [] }
 
--- One move: an item's own step, with any number as the unspecified value that it may need; the answer to what it asks; any answer, where the memory denies and the program takes it; or the release of a group whose items all wait at one barrier.
+-- One move: an item's own, with any number as the unspecified value that it may need; the answer to what it asks; any answer, where the memory denies and the program takes it; or the release of a group whose items all wait at one barrier.
 pub data Moves {S E F M : Type 0} (l : Shared F M) (p : Program S E F) : World F M → World F M → Type 0 where
   own : (w : World F M) (i x : ℕ) → i < l.count → (p.machine i).status (state p w i) ≡ Runs
       → Moves l p w (record { memory = w.memory; items = with_item i (w.items i ++ x ∷ []) w.items; log = w.log })
@@ -77,7 +78,7 @@ pub data Leads {S E F M : Type 0} (l : Shared F M) (p : Program S E F) : World F
   here : (w : World F M) → Leads l p w w
   onward : (u v w : World F M) → Leads l p u v → Moves l p v w → Leads l p u w
 
--- no item has made a step
+-- no item has made a move
 abbrev pub opening : {F M : Type 0} → M → World F M
 opening m = record { memory = m; items = λ i. []; log = [] }
 
@@ -107,7 +108,11 @@ pub record IsStuck {S E F M : Type 0} (l : Shared F M) (p : Program S E F) (w : 
   pub not_wrong : IsWrong l p w → ⊥
   pub no_move : (v : World F M) → Moves l p w v → ⊥
 
+-- an item's steps in a history: what its moves weigh, summed
+abbrev pub item_steps : {S E F : Type 0} → Program S E F → ℕ → List ℕ → ℕ
+item_steps p i h = paid (p.machine i) p.weight h (p.start i)
+
 -- the steps of the first so many items, summed
-abbrev pub steps_of : ℕ → (ℕ → List ℕ) → ℕ
-steps_of zero items = 0
-steps_of (suc n) items = steps_of n items + length (items n)
+abbrev pub steps_of : {S E F : Type 0} → Program S E F → ℕ → (ℕ → List ℕ) → ℕ
+steps_of p zero items = 0
+steps_of p (suc n) items = steps_of p n items + item_steps p n (items n)

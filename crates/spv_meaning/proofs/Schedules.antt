@@ -1,11 +1,10 @@
 -- What holds of a run by a schedule: it ends in one way, and is a run of the module's world.
-use Rattle.std.proofs.Common.{◌≡◌, ◌⊎◌, ℕ, zero, suc, ◌+◌, ◌<◌, ◌≤◌, inl, inr, List, [], ◌∷◌, ◌++◌, refl, sym, ap, ◌∙◌, subst, length, arith}
+use Rattle.std.proofs.Common.{◌≡◌, ◌⊎◌, ℕ, zero, suc, ◌+◌, ◌<◌, ◌≤◌, inl, inr, List, [], ◌∷◌, ◌++◌, refl, sym, ap, ◌∙◌, subst, arith}
 use Rattle.std.proofs.lemmas.Bool.{cases_eq}
-use Rattle.std.proofs.lemmas.List.{length-append}
 use Rattle.launch_text.specs.WorkItems.{volume}
 use Rattle.clv_steps.specs.Machines.{Ends, Fails, IsLive}
-use Rattle.clv_worlds.specs.Worlds.{with_item, Leads, here, onward, IsComplete, opening, steps_of}
-use Rattle.clv_worlds.proofs.Picks.{pick_same, pick_other}
+use Rattle.clv_worlds.specs.Worlds.{Leads, here, onward, IsComplete, opening, steps_of}
+use Rattle.clv_worlds.proofs.Steps.{no_steps, one_more}
 use Rattle.spv_module.specs.declared.module.Inst.{Inst}
 use Rattle.spv_meaning.specs.Start.{Start}
 use Rattle.spv_meaning.specs.Invocation.{Run, run, over, status, given_of}
@@ -43,30 +42,6 @@ has_numbers m (suc n) i low high = elim (cases_eq m i) [
   | inl e ↦ inl e
   | inr other ↦ inr (has_numbers (m + 1) n i (omega (arith, low, other)) (omega (arith, high)))
 ]
-
--- ---- steps, summed
-
-module _ (i : ℕ) (h : List ℕ) (hs : ℕ → List ℕ) where
-  sum_above : (n : ℕ) → n ≤ i → steps_of n (with_item i h hs) ≡ steps_of n hs
-  sum_above zero le = refl
-  sum_above (suc n) le =
-      let a = sum_above n (omega (arith, le)) in
-      let b : length (with_item i h hs n) ≡ length (hs n) = ap length (pick_other i n h (hs n) (λ e. omega (arith, e, le))) in
-      omega (arith, a, b)
-
-  sum_below : (n : ℕ) → i < n → steps_of n (with_item i h hs) + length (hs i) ≡ steps_of n hs + length h
-  sum_below zero lt = absurd (omega (arith, lt))
-  sum_below (suc n) lt = elim (cases_eq i n) [
-    | inl e ↦ (
-        let a = sum_above n (omega (arith, e)) in
-        let b : length (with_item i h hs n) ≡ length h = ap (λ k. length (with_item i h hs k)) (sym e) ∙ ap length (pick_same i h (hs i)) in
-        let d : length (hs i) ≡ length (hs n) = ap (λ k. length (hs k)) e in
-        omega (arith, a, b, d))
-    | inr other ↦ (
-        let a = sum_below n (omega (arith, lt, other)) in
-        let b : length (with_item i h hs n) ≡ length (hs n) = ap length (pick_other i n h (hs n) other) in
-        omega (arith, a, b))
-  ]
 
 module _ (body : List Inst) (start : Start) (turn : ℕ) where
   abbrev IsItem : ℕ → Type 0
@@ -122,14 +97,11 @@ module _ (body : List Inst) (start : Start) (turn : ℕ) where
   -- ---- its steps are those of its world
 
   abbrev steps_in : Invocations → ℕ
-  steps_in w = steps_of (volume start.global) w.items
+  steps_in w = steps_of (module_world body start) (volume start.global) w.items
 
   step_counted : (w : Invocations) (i : ℕ) → IsItem i → IsLive (status_of body start w i) → steps_in (after_step body start w i) ≡ steps_in w + 1
   step_counted w i low l =
-      let a : steps_in (after_step body start w i) ≡ steps_of (volume start.global) (with_item i (w.items i ++ 0 ∷ []) w.items) = ap (steps_of (volume start.global)) (step_items body start w i (status_of body start w i) l) in
-      let b = sum_below i (w.items i ++ 0 ∷ []) w.items (volume start.global) low in
-      let d : length (w.items i ++ 0 ∷ []) ≡ length (w.items i) + 1 = length-append (w.items i) (0 ∷ []) in
-      omega (arith, a, b, d)
+      ap (steps_of (module_world body start) (volume start.global)) (step_items body start w i (status_of body start w i) l) ∙ one_more (module_world body start) i 0 (volume start.global) w.items low
 
   pub turns_steps : (w v : Invocations) (queue : List ℕ) (left budget made n : ℕ) (e : Ending) → Turns body start turn queue left budget made w e v → e ≡ IsDone n → Each IsItem queue → made ≡ steps_in w → n ≡ steps_in v
   turns_steps _ _ _ _ _ _ n _ (complete left budget made w) q k m = let h : IsDone made ≡ IsDone n = q in let g : n ≡ made = cc in g ∙ m
@@ -168,12 +140,8 @@ module _ (body : List Inst) (start : Start) (turn : ℕ) where
   pub run_completes : (budget n : ℕ) (w : Invocations) → ScheduledRun body start turn budget (IsDone n) w → IsComplete (shared_over start.global start.local) (module_world body start) w
   run_completes budget n w t = turns_complete (opening start.buffers) w (numbers_from 0 (volume start.global)) turn budget 0 n (IsDone n) t refl (λ j low. inl (has_numbers 0 (volume start.global) j (omega arith) (omega (arith, low))))
 
-  no_steps : (n : ℕ) → 0 ≡ steps_of n (λ i. [])
-  no_steps zero = refl
-  no_steps (suc n) = let h = no_steps n in omega (arith, h)
-
-  pub run_counts : (budget n : ℕ) (w : Invocations) → ScheduledRun body start turn budget (IsDone n) w → n ≡ steps_of (volume start.global) w.items
-  run_counts budget n w t = turns_steps (opening start.buffers) w (numbers_from 0 (volume start.global)) turn budget 0 n (IsDone n) t refl items_all (no_steps (volume start.global))
+  pub run_counts : (budget n : ℕ) (w : Invocations) → ScheduledRun body start turn budget (IsDone n) w → n ≡ steps_of (module_world body start) (volume start.global) w.items
+  run_counts budget n w t = turns_steps (opening start.buffers) w (numbers_from 0 (volume start.global)) turn budget 0 n (IsDone n) t refl items_all (no_steps (module_world body start) (volume start.global))
 
   pub run_fails : (budget n : ℕ) (x : Trapped) (w : Invocations) → ScheduledRun body start turn budget (HasTrapped x n) w → IsItem x.item × (status_of body start w x.item ≡ Fails) × TrapsAt body start x.item (run_of body start w x.item) x
   run_fails budget n x w t = turns_fail (opening start.buffers) w (numbers_from 0 (volume start.global)) turn budget 0 n x (HasTrapped x n) t refl items_all

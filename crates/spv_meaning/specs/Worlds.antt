@@ -44,6 +44,6 @@ shared_over global local = record { count = volume global; group = group_of glob
 abbrev pub no_gate : Asked → Option (List ℕ)
 no_gate asked = None
 
--- The module's world.
+-- The module's world. Each move of an invocation is a step.
 abbrev pub module_world : List Inst → Start → Program Run Asked Asked
-module_world body start = record { machine = λ item. invocation (given_of body start item); start = λ item. first_run (given_of body start item); word = λ asked. asked; gate = no_gate; takes_any = true }
+module_world body start = record { machine = λ item. invocation (given_of body start item); start = λ item. first_run (given_of body start item); weight = λ run. 1; word = λ asked. asked; gate = no_gate; takes_any = true }
