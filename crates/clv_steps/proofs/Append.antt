@@ -44,3 +44,8 @@ paid_most m cost most low (x ∷ h) s = let a = low s in let b = paid_most m cos
 pub words_append : {E F : Type 0} (word : E → F) (g h : List (E × ℕ)) → in_words word (g ++ h) ≡ in_words word g ++ in_words word h
 words_append word [] h = refl
 words_append word (x ∷ g) h = ap (λ l. (word x.0, x.1) ∷ l) (words_append word g h)
+
+-- words put into words
+pub words_words : {E F G : Type 0} (word : E → F) (word2 : F → G) (h : List (E × ℕ)) → in_words word2 (in_words word h) ≡ in_words (λ e. word2 (word e)) h
+words_words word word2 [] = refl
+words_words word word2 (x ∷ h) = ap (λ l. (word2 (word x.0), x.1) ∷ l) (words_words word word2 h)

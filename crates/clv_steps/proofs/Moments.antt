@@ -1,17 +1,9 @@
 -- One choice for all moments.
-use Rattle.std.proofs.Common.{◌≡◌, ℕ, inl, inr, List, [], ◌∷◌, ◌++◌, sym, ap, ◌∙◌, subst, arith, append_assoc}
-use Rattle.std.proofs.lemmas.List.{append-nil}
+use Rattle.std.proofs.Common.{ℕ, inl, inr, List, ap, ◌∙◌, subst, arith}
 use Rattle.clv_steps.specs.Machines.{Machine, IsLegal}
 use Rattle.clv_steps.specs.Runs.{Meter, counted, valued, Keeps, Serves, Follows, Simulates}
 use Rattle.clv_steps.proofs.Append.{legal_front, paid_length, paid_times}
-
--- a choice that grows by each move grows by all
-pub grows_all : {S T E F : Type 0} (a : Machine S E) (b : Machine T F) (word : E → F) (pay : Meter S) (due : Meter T) (s : S) (t : T) (f : Follows a b word pay due s t) (back h : List ℕ) → (more : List ℕ) × (f.choose (h ++ back) ≡ f.choose h ++ more)
-grows_all a b word pay due s t f [] h = ([], ap f.choose (append-nil h) ∙ sym (append-nil (f.choose h)))
-grows_all a b word pay due s t f (x ∷ back) h =
-    let one = f.grows h x in
-    let rest = grows_all a b word pay due s t f back (h ++ x ∷ []) in
-    (one.0 ++ rest.0, ap f.choose (sym (append_assoc h (x ∷ []) back)) ∙ rest.1 ∙ ap (λ l. l ++ rest.0) one.1 ∙ append_assoc (f.choose h) one.0 rest.0)
+use Rattle.clv_steps.proofs.Compose.{grows_all, composed}
 
 -- each move of the target is a step
 serves : {S T E F : Type 0} (a : Machine S E) (b : Machine T F) (word : E → F) (weight : S → ℕ) (worth : ℕ) (s : S) (t : T) (g h : List ℕ) → Keeps a b word (valued weight worth) (counted (λ z. 1)) s t g h → Serves a b word weight worth s t g h
@@ -41,3 +33,7 @@ moments a b word weight worth s t f h legal = record {
         ],
       );
 }
+
+-- The same by way of a machine between: the source's steps pay for what its moves cost, and these for the target's moves.
+pub moments_by : {S T U E F G : Type 0} (a : Machine S E) (b : Machine T F) (c : Machine U G) (word : E → F) (word2 : F → G) (weight : S → ℕ) (worth : ℕ) (mid : Meter T) (s : S) (t : T) (u : U) → Follows a b word (valued weight worth) mid s t → Follows b c word2 mid (counted (λ z. 1)) t u → Simulates a c (λ e. word2 (word e)) weight worth s u
+moments_by a b c word word2 weight worth mid s t u f f2 = moments a c (λ e. word2 (word e)) weight worth s u (composed a b c word word2 (valued weight worth) mid (counted (λ z. 1)) s t u f f2)
