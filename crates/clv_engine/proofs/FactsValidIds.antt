@@ -3,7 +3,7 @@ use Rattle.std.proofs.Common.{◌≡◌, ℕ, ◌+◌, Bool, true, false, List, 
 use Rattle.std.specs.Prelude.{◌&&◌, not}
 use Rattle.clv_engine.specs.declared.form.Kernel.{Kernel}
 use Rattle.clv_engine.specs.declared.id.TheConstants as id
-use Rattle.clv_engine.proofs.FactsLines.{main_line, extract_line, add_line, chain_line, store_line, kernel_line, buffer_line, the_whole}
+use Rattle.clv_engine.proofs.FactsLines.{main_line, extract_line, add_line, chain_line, store_line, kernel_line, buffer_line, the_whole, calls_none}
 use Rattle.clv_engine.proofs.FactsWalk.{IsUint, IsReached, Step, constant, main, label, load, extract, add, chain, store, return, end, kernel, name, buffer, sizes, Walk, none, step, both, behind_head, walk, main_found}
 use Rattle.spv_types_rules.specs.Lines.{Line, Whole, Spot}
 use Rattle.spv_types_rules.specs.Rules.{rule, all_keep, is_kept_in}
@@ -12,12 +12,12 @@ use Rattle.std.specs.List.{list_all}
 use Rattle.std.proofs.Common.{inl, inr, cond, ne_eqb}
 use Rattle.spv_module.specs.Options.{is_there}
 use Rattle.spv_module.specs.declared.op.TheConstants as op
-use Rattle.spv_types_rules.specs.Lines.{has_op, is_some_of, is_op_of, to_end, is_ended, type_by, type_of, same_id, pointee}
+use Rattle.spv_types_rules.specs.Lines.{has_op, has_op_among, own_opcodes, is_some_of, is_op_of, type_by, type_of, same_id, pointee}
 use Rattle.spv_types_rules.specs.Sections.{is_in_order}
 use Rattle.spv_types_rules.specs.Ids.{defines_once, keeps_kinds, is_ordered, keeps_uses, is_defined, is_value, is_value_line, may_use, may_use_by, reaches, function_makes, block_makes, makes}
 use Rattle.spv_types_rules.specs.Types.{keeps_arrays, may_name_array, may_name_struct}
 use Rattle.spv_types_rules.specs.Variables.{keeps_fixed, is_fixed, place_by, place_from, chain_base, steps_from, indices}
-use Rattle.spv_types_rules.specs.Functions.{keeps_functions, keeps_blocks, keeps_returns, begins_with_label}
+use Rattle.spv_types_rules.specs.Functions.{keeps_calls, keeps_functions, keeps_blocks, keeps_returns}
 use Rattle.spv_types_rules.specs.Values.{keeps_operands, keeps_accesses, keeps_chains, keeps_composites, has_shape, shape_of, is_same_shape}
 
 abbrev at : Kernel → List Line → Line → List Line → Spot
@@ -40,10 +40,10 @@ module _ (k : Kernel) (b : List Line) (x : ℕ) (u : IsUint (the_whole k) b x) w
 
   uint_reaches : (l : Line) (a : List Line) → l.inside ≡ true → IsReached b x u.line → reaches (at k b l a) x u.line ≡ true
   uint_reaches l a e (inl p) =
-      ap (λ c. cond c (l.inside && block_makes false b x) (cond (has_op op.VARIABLE u.line && u.line.inside) (function_makes (at k b l a) x) true)) p.0
+      ap (λ c. cond c (l.inside && block_makes false b x) (cond (has_op_among own_opcodes u.line && u.line.inside) (function_makes (at k b l a) x) true)) p.0
       ∙ ap (λ c. cond (c && u.line.inside) (function_makes (at k b l a) x) true) p.1
   uint_reaches l a e (inr p) =
-      ap (λ c. cond c (l.inside && block_makes false b x) (cond (has_op op.VARIABLE u.line && u.line.inside) (function_makes (at k b l a) x) true)) p.0
+      ap (λ c. cond c (l.inside && block_makes false b x) (cond (has_op_among own_opcodes u.line && u.line.inside) (function_makes (at k b l a) x) true)) p.0
       ∙ both l.inside (block_makes false b x) e p.1
 
   uint_used : (l : Line) (a : List Line) → l.inside ≡ true → may_use (at k b l a) x ≡ true
@@ -56,7 +56,7 @@ module _ (k : Kernel) (b : List Line) (x : ℕ) (u : IsUint (the_whole k) b x) w
 
 keeps_1 : (k : Kernel) (b : List Line) (l : Line) (a : List Line) → Step (the_whole k) b l a → is_in_order (at k b l a) ≡ true
 keeps_1 k _ _ _ (constant b a r n f m u) = f
-keeps_1 k _ _ _ (main b a f m e g) = f
+keeps_1 k _ _ _ (main b a f m e p g h) = f
 keeps_1 k _ _ _ (label b a f m e) = f
 keeps_1 k _ _ _ (load b a r f m) = f
 keeps_1 k _ _ _ (extract b a r c f m d e h) = f
@@ -80,7 +80,7 @@ free ls r e = ap not e
 
 keeps_6 : (k : Kernel) (b : List Line) (l : Line) (a : List Line) → Step (the_whole k) b l a → defines_once (at k b l a) ≡ true
 keeps_6 k _ _ _ (constant b a r n f m u) = both (not (makes b r)) true (free b r m) refl
-keeps_6 k _ _ _ (main b a f m e g) = both (not (makes b id.MAIN)) true (free b id.MAIN m) refl
+keeps_6 k _ _ _ (main b a f m e p g h) = both (not (makes b id.MAIN)) true (free b id.MAIN m) refl
 keeps_6 k _ _ _ (label b a f m e) = both (not (makes b id.ENTRY)) true (free b id.ENTRY m) refl
 keeps_6 k _ _ _ (load b a r f m) = both (not (makes b r)) true (free b r m) refl
 keeps_6 k _ _ _ (extract b a r c f m d e h) = both (not (makes b r)) (is_defined (the_whole k) c && true) (free b r m) (both (is_defined (the_whole k) c) true (ap is_there d) refl)
@@ -194,10 +194,17 @@ keeps_22 k _ _ _ _ = refl
 pub kept_22 : (k : Kernel) → is_kept_in (rule 22 keeps_fixed) (the_whole k) ≡ true
 kept_22 k = with_has (rule 22 keeps_fixed) (the_whole k) (from_walk keeps_fixed k refl (keeps_22 k)) refl
 
--- ---- rules 31, 33 and 43
+-- ---- rules 30, 31, 33 and 43
+
+keeps_30 : (k : Kernel) (b : List Line) (l : Line) (a : List Line) → Step (the_whole k) b l a → keeps_calls (at k b l a) ≡ true
+keeps_30 k _ _ _ (main b a f m e p g h) = rw (calls_none k.terms) refl
+keeps_30 k _ _ _ _ = refl
+
+pub kept_30 : (k : Kernel) → is_kept_in (rule 30 keeps_calls) (the_whole k) ≡ true
+kept_30 k = with_has (rule 30 keeps_calls) (the_whole k) (from_walk keeps_calls k refl (keeps_30 k)) refl
 
 keeps_31 : (k : Kernel) (b : List Line) (l : Line) (a : List Line) → Step (the_whole k) b l a → keeps_functions (at k b l a) ≡ true
-keeps_31 k _ _ _ (main b a f m e g) = both (begins_with_label (to_end a) && is_ended a) true (both (begins_with_label (to_end a)) (is_ended a) g e) refl
+keeps_31 k _ _ _ (main b a f m e p g h) = rw (p, g, e) refl
 keeps_31 k _ _ _ _ = refl
 
 pub kept_31 : (k : Kernel) → is_kept_in (rule 31 keeps_functions) (the_whole k) ≡ true
@@ -211,7 +218,7 @@ pub kept_33 : (k : Kernel) → is_kept_in (rule 33 keeps_blocks) (the_whole k) �
 kept_33 k = with_has (rule 33 keeps_blocks) (the_whole k) (from_walk keeps_blocks k refl (keeps_33 k)) refl
 
 keeps_43 : (k : Kernel) (b : List Line) (l : Line) (a : List Line) → Step (the_whole k) b l a → keeps_returns (at k b l a) ≡ true
-keeps_43 k _ _ _ (return b a f e) = e
+keeps_43 k _ _ _ (return b a f e) = rw e refl
 keeps_43 k _ _ _ _ = refl
 
 pub kept_43 : (k : Kernel) → is_kept_in (rule 43 keeps_returns) (the_whole k) ≡ true

@@ -5,14 +5,15 @@ use Rattle.clv_engine.specs.declared.id.TheConstants as id
 use Rattle.clv_engine.specs.Emitted.{constants_from}
 use Rattle.clv_engine.proofs.FactsScans.{code_of}
 use Rattle.clv_engine.proofs.FactsLines.{the_whole}
-use Rattle.clv_engine.proofs.FactsWalk.{Step, constant, both, by_steps, behind_head, walk}
+use Rattle.clv_engine.proofs.FactsWalk.{Step, constant, main, both, by_steps, behind_head, walk}
 use Rattle.spv_types_rules.specs.Lines.{Line, Whole, Spot, lines_from}
-use Rattle.spv_types_rules.specs.Rules.{Rule, rule, rule_with, anywhere, all_keep, is_kept_in}
-use Rattle.spv_types_rules.specs.Sections.{is_known, keeps_model, has_model, keeps_capability, has_capabilities, keeps_extension, has_extensions, keeps_import, has_import}
+use Rattle.spv_types_rules.specs.Rules.{Rule, rule, rule_with, built_rule, anywhere, all_keep, is_kept_in}
+use Rattle.spv_types_rules.specs.Sections.{is_built, keeps_model, has_model, keeps_capability, has_capabilities, keeps_extension, has_extensions, keeps_import, has_import}
 use Rattle.spv_types_rules.specs.Types.{is_new_type, is_good_type, keeps_layout, keeps_places, is_small_type}
-use Rattle.spv_types_rules.specs.Variables.{keeps_storage, keeps_bound, keeps_apart, keeps_push, keeps_input, keeps_marks, keeps_pointers}
+use Rattle.spv_types_rules.specs.Variables.{keeps_storage, keeps_bound, keeps_apart, keeps_push, keeps_input, keeps_marks, keeps_bools, keeps_pointers}
 use Rattle.spv_types_rules.specs.Entries.{keeps_entries, has_entry, keeps_entry_functions, keeps_interfaces, has_group_size, keeps_spec_ids}
-use Rattle.spv_types_rules.specs.Values.{keeps_reflection}
+use Rattle.spv_types_rules.specs.Functions.{keeps_parameters, keeps_targets, keeps_arguments}
+use Rattle.spv_types_rules.specs.Values.{keeps_atomics, keeps_selectors, keeps_reflection}
 
 -- what is behind the head
 abbrev pub behind : Kernel → List Line
@@ -25,12 +26,12 @@ from_walk keeps k e each = e ∙ by_steps keeps (the_whole k) each (behind_head 
 pub with_has : (r : Rule) (w : Whole) → all_keep r.keeps w [] w.lines ≡ true → r.has w ≡ true → is_kept_in r w ≡ true
 with_has r w e h = both (all_keep r.keeps w [] w.lines) (r.has w) e h
 
-keeps_0 : (k : Kernel) (b : List Line) (l : Line) (a : List Line) → Step (the_whole k) b l a → is_known (record { whole = the_whole k; before = b; here = l; after = a }) ≡ true
+keeps_0 : (k : Kernel) (b : List Line) (l : Line) (a : List Line) → Step (the_whole k) b l a → is_built (record { whole = the_whole k; before = b; here = l; after = a }) ≡ true
 keeps_0 k _ _ _ (constant b a r n f m u) = refl
 keeps_0 k _ _ _ _ = refl
 
-pub kept_0 : (k : Kernel) → is_kept_in (rule 0 is_known) (the_whole k) ≡ true
-kept_0 k = with_has (rule 0 is_known) (the_whole k) (from_walk is_known k refl (keeps_0 k)) refl
+pub kept_0 : (k : Kernel) → is_kept_in (built_rule) (the_whole k) ≡ true
+kept_0 k = with_has (built_rule) (the_whole k) (from_walk is_built k refl (keeps_0 k)) refl
 
 keeps_2 : (k : Kernel) (b : List Line) (l : Line) (a : List Line) → Step (the_whole k) b l a → keeps_model (record { whole = the_whole k; before = b; here = l; after = a }) ≡ true
 keeps_2 k _ _ _ (constant b a r n f m u) = refl
@@ -137,6 +138,13 @@ keeps_21 k _ _ _ _ = refl
 pub kept_21 : (k : Kernel) → is_kept_in (rule 21 keeps_marks) (the_whole k) ≡ true
 kept_21 k = with_has (rule 21 keeps_marks) (the_whole k) (from_walk keeps_marks k refl (keeps_21 k)) refl
 
+keeps_23 : (k : Kernel) (b : List Line) (l : Line) (a : List Line) → Step (the_whole k) b l a → keeps_bools (record { whole = the_whole k; before = b; here = l; after = a }) ≡ true
+keeps_23 k _ _ _ (constant b a r n f m u) = refl
+keeps_23 k _ _ _ _ = refl
+
+pub kept_23 : (k : Kernel) → is_kept_in (rule 23 keeps_bools) (the_whole k) ≡ true
+kept_23 k = with_has (rule 23 keeps_bools) (the_whole k) (from_walk keeps_bools k refl (keeps_23 k)) refl
+
 keeps_24 : (k : Kernel) (b : List Line) (l : Line) (a : List Line) → Step (the_whole k) b l a → keeps_pointers (record { whole = the_whole k; before = b; here = l; after = a }) ≡ true
 keeps_24 k _ _ _ (constant b a r n f m u) = refl
 keeps_24 k _ _ _ _ = refl
@@ -152,6 +160,7 @@ pub kept_25 : (k : Kernel) → is_kept_in (rule_with 25 keeps_entries has_entry)
 kept_25 k = with_has (rule_with 25 keeps_entries has_entry) (the_whole k) (from_walk keeps_entries k refl (keeps_25 k)) refl
 
 keeps_26 : (k : Kernel) (b : List Line) (l : Line) (a : List Line) → Step (the_whole k) b l a → keeps_entry_functions (record { whole = the_whole k; before = b; here = l; after = a }) ≡ true
+keeps_26 k _ _ _ (main b a f m e p g h) = h
 keeps_26 k _ _ _ (constant b a r n f m u) = refl
 keeps_26 k _ _ _ _ = refl
 
@@ -178,6 +187,41 @@ keeps_29 k _ _ _ _ = refl
 
 pub kept_29 : (k : Kernel) → is_kept_in (rule 29 keeps_spec_ids) (the_whole k) ≡ true
 kept_29 k = with_has (rule 29 keeps_spec_ids) (the_whole k) (from_walk keeps_spec_ids k refl (keeps_29 k)) refl
+
+keeps_32 : (k : Kernel) (b : List Line) (l : Line) (a : List Line) → Step (the_whole k) b l a → keeps_parameters (record { whole = the_whole k; before = b; here = l; after = a }) ≡ true
+keeps_32 k _ _ _ (constant b a r n f m u) = refl
+keeps_32 k _ _ _ _ = refl
+
+pub kept_32 : (k : Kernel) → is_kept_in (rule 32 keeps_parameters) (the_whole k) ≡ true
+kept_32 k = with_has (rule 32 keeps_parameters) (the_whole k) (from_walk keeps_parameters k refl (keeps_32 k)) refl
+
+keeps_34 : (k : Kernel) (b : List Line) (l : Line) (a : List Line) → Step (the_whole k) b l a → keeps_targets (record { whole = the_whole k; before = b; here = l; after = a }) ≡ true
+keeps_34 k _ _ _ (constant b a r n f m u) = refl
+keeps_34 k _ _ _ _ = refl
+
+pub kept_34 : (k : Kernel) → is_kept_in (rule 34 keeps_targets) (the_whole k) ≡ true
+kept_34 k = with_has (rule 34 keeps_targets) (the_whole k) (from_walk keeps_targets k refl (keeps_34 k)) refl
+
+keeps_39 : (k : Kernel) (b : List Line) (l : Line) (a : List Line) → Step (the_whole k) b l a → keeps_arguments (record { whole = the_whole k; before = b; here = l; after = a }) ≡ true
+keeps_39 k _ _ _ (constant b a r n f m u) = refl
+keeps_39 k _ _ _ _ = refl
+
+pub kept_39 : (k : Kernel) → is_kept_in (rule 39 keeps_arguments) (the_whole k) ≡ true
+kept_39 k = with_has (rule 39 keeps_arguments) (the_whole k) (from_walk keeps_arguments k refl (keeps_39 k)) refl
+
+keeps_40 : (k : Kernel) (b : List Line) (l : Line) (a : List Line) → Step (the_whole k) b l a → keeps_atomics (record { whole = the_whole k; before = b; here = l; after = a }) ≡ true
+keeps_40 k _ _ _ (constant b a r n f m u) = refl
+keeps_40 k _ _ _ _ = refl
+
+pub kept_40 : (k : Kernel) → is_kept_in (rule 40 keeps_atomics) (the_whole k) ≡ true
+kept_40 k = with_has (rule 40 keeps_atomics) (the_whole k) (from_walk keeps_atomics k refl (keeps_40 k)) refl
+
+keeps_42 : (k : Kernel) (b : List Line) (l : Line) (a : List Line) → Step (the_whole k) b l a → keeps_selectors (record { whole = the_whole k; before = b; here = l; after = a }) ≡ true
+keeps_42 k _ _ _ (constant b a r n f m u) = refl
+keeps_42 k _ _ _ _ = refl
+
+pub kept_42 : (k : Kernel) → is_kept_in (rule 42 keeps_selectors) (the_whole k) ≡ true
+kept_42 k = with_has (rule 42 keeps_selectors) (the_whole k) (from_walk keeps_selectors k refl (keeps_42 k)) refl
 
 keeps_44 : (k : Kernel) (b : List Line) (l : Line) (a : List Line) → Step (the_whole k) b l a → keeps_reflection (record { whole = the_whole k; before = b; here = l; after = a }) ≡ true
 keeps_44 k _ _ _ (constant b a r n f m u) = refl

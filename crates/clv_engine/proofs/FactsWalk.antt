@@ -13,23 +13,24 @@ use Rattle.clv_engine.specs.declared.form.Term.TheVariants.{GlobalId, Literal}
 use Rattle.clv_engine.specs.declared.id.TheConstants as id
 use Rattle.clv_engine.specs.Emitted.{inst, head, constants_from, global_id, terms, sums_from, sum_from, sum, function_end, reflection}
 use Rattle.clv_engine.proofs.FactsScans.{code_of}
-use Rattle.clv_engine.proofs.FactsLines.{const_line, label_line, load_line, extract_line, add_line, chain_line, store_line, return_line, end_line, kernel_line, name_line, buffer_line, sizes_line, code_behind, behind_label, main_line, the_whole, main_ended, block_terminated}
-use Rattle.spv_types_rules.specs.Lines.{Line, Whole, Spot, line, lines_from, lines_of, has_op, has_op_among, constant_opcodes, value_opcodes, is_id, is_op_of, ends_function, to_end, is_ended, defines, defined, type_by}
+use Rattle.clv_engine.proofs.FactsLines.{const_line, label_line, load_line, extract_line, add_line, chain_line, store_line, return_line, end_line, kernel_line, name_line, buffer_line, sizes_line, code_behind, behind_label, main_line, the_whole, main_ended, block_terminated, main_alone}
+use Rattle.spv_types_rules.specs.Lines.{Line, Whole, Spot, line, lines_from, lines_of, onto, parameters, behind_parameters, has_op, has_op_among, constant_opcodes, value_opcodes, own_opcodes, is_id, ends_function, to_end, is_ended, defines, defined, type_by}
 use Rattle.spv_types_rules.specs.Sections.{section, follows}
 use Rattle.spv_types_rules.specs.Ids.{makes, block_makes}
-use Rattle.spv_types_rules.specs.Functions.{to_label, is_terminated, begins_with_label, returns_void}
-use Rattle.spv_types_rules.specs.Rules.{onto, all_keep}
+use Rattle.spv_types_rules.specs.Entries.{has_no_parameter}
+use Rattle.spv_types_rules.specs.Functions.{to_label, is_terminated, has_body, returned}
+use Rattle.spv_types_rules.specs.Rules.{all_keep}
 
 -- ---- steps
 
 abbrev pub IsReached : List Line → ℕ → Line → Type 0
-IsReached b x l = ((has_op_among value_opcodes l ≡ false) × (has_op op.VARIABLE l ≡ false)) ⊎ ((has_op_among value_opcodes l ≡ true) × (block_makes false b x ≡ true))
+IsReached b x l = ((has_op_among value_opcodes l ≡ false) × (has_op_among own_opcodes l ≡ false)) ⊎ ((has_op_among value_opcodes l ≡ true) × (block_makes false b x ≡ true))
 
 -- an int that may be used behind some lines
 pub record IsUint (w : Whole) (b : List Line) (x : ℕ) : Type 0 where
   pub line : Line
   pub found : defined w x ≡ Some line
-  pub valued : (has_op op.VARIABLE line || has_op_among constant_opcodes line || has_op_among value_opcodes line) ≡ true
+  pub valued : (has_op_among own_opcodes line || has_op_among constant_opcodes line || has_op_among value_opcodes line) ≡ true
   pub kind : line.type ≡ Some id.UINT
   pub typed : type_by (Some line) ≡ Some id.UINT
   pub reached : IsReached b x line
@@ -38,14 +39,14 @@ pub record IsUint (w : Whole) (b : List Line) (x : ℕ) : Type 0 where
 -- a line of a kernel's module behind its head, with the lines before it, the last first, and those after it
 pub data Step (w : Whole) : List Line → Line → List Line → Type 0 where
   constant : (b a : List Line) (r n : ℕ) → follows b (const_line r n) ≡ true → makes b r ≡ false → makes b id.UINT ≡ true → Step w b (const_line r n) a
-  main : (b a : List Line) → follows b main_line ≡ true → makes b id.MAIN ≡ false → is_ended a ≡ true → begins_with_label (to_end a) ≡ true → Step w b main_line a
+  main : (b a : List Line) → follows b main_line ≡ true → makes b id.MAIN ≡ false → is_ended a ≡ true → parameters (to_end a) ≡ [] → has_body (behind_parameters (to_end a)) ≡ true → has_no_parameter (to_end a) ≡ true → Step w b main_line a
   label : (b a : List Line) → follows b label_line ≡ true → makes b id.ENTRY ≡ false → is_terminated (to_label a) ≡ true → Step w b label_line a
   load : (b a : List Line) (r : ℕ) → follows b (load_line r) ≡ true → makes b r ≡ false → Step w b (load_line r) a
   extract : (b a : List Line) (r c : ℕ) → follows b (extract_line r c) ≡ true → makes b r ≡ false → defined w c ≡ Some (load_line c) → block_makes false b c ≡ true → 12 ≤ c → Step w b (extract_line r c) a
   add : (b a : List Line) (r x y : ℕ) → follows b (add_line r x y) ≡ true → makes b r ≡ false → IsUint w b x → IsUint w b y → Step w b (add_line r x y) a
   chain : (b a : List Line) → follows b chain_line ≡ true → makes b id.ELEMENT ≡ false → IsUint w b (id.PLACE + 1) → Step w b chain_line a
   store : (b a : List Line) (x : ℕ) → follows b (store_line x) ≡ true → defined w id.ELEMENT ≡ Some chain_line → block_makes false b id.ELEMENT ≡ true → IsUint w b x → Step w b (store_line x) a
-  return : (b a : List Line) → follows b return_line ≡ true → returns_void w b ≡ true → Step w b return_line a
+  return : (b a : List Line) → follows b return_line ≡ true → returned b ≡ Some id.VOID → Step w b return_line a
   end : (b a : List Line) → follows b end_line ≡ true → Step w b end_line a
   kernel : (b a : List Line) → follows b kernel_line ≡ true → makes b id.KERNEL_LINE ≡ false → defined w id.MAIN ≡ Some main_line → Step w b kernel_line a
   name : (b a : List Line) → follows b name_line ≡ true → makes b id.NAME_LINE ≡ false → Step w b name_line a
@@ -174,7 +175,7 @@ record IsCode (w : Whole) (b : List Line) : Type 0 where
   low : (x : ℕ) → id.ELEMENT ≤ x → x < id.TERMS → makes b x ≡ false
   in_block : (x : ℕ) → block_makes true b x ≡ true
   place : IsUint w b (id.PLACE + 1)
-  returns : returns_void w b ≡ true
+  returns : returned b ≡ Some id.VOID
 
 -- the ids of terms that are still free
 abbrev IsFresh : ℕ → List Term → List Line → Type 0
@@ -220,7 +221,7 @@ code_on w b l r e p s f g h c = record {
       ∙ ap (λ z. cond z false (block_makes true b x)) h
       ∙ c.in_block x;
   place = uint_on w b l (id.PLACE + 1) f h c.in_block c.place;
-  returns = ap (λ z. cond z (is_op_of w op.TYPE_VOID l.type) (returns_void w b)) g ∙ c.returns;
+  returns = ap (λ z. cond z l.type (returned b)) g ∙ c.returns;
 }
 
 module _ (w : Whole) where
@@ -448,7 +449,7 @@ module _ (k : Kernel) where
   walk_code : Walk (the_whole k) front (lines_from false (code_of k.terms))
   walk_code =
       let behind = lines_from true (terms k.terms ++ behind_terms) in
-      step front main_line (lines_from true (code_behind k.terms)) (main front (lines_from true (code_behind k.terms)) (front_up_to main_line refl) (front_makes_none id.MAIN (omega arith) refl) (main_ended k.terms) refl)
+      step front main_line (lines_from true (code_behind k.terms)) (main front (lines_from true (code_behind k.terms)) (front_up_to main_line refl) (front_makes_none id.MAIN (omega arith) refl) (main_ended k.terms) refl (main_alone k.terms) (main_alone k.terms))
       (step (main_line ∷ front) label_line (lines_from true (behind_label k.terms)) (label (main_line ∷ front) (lines_from true (behind_label k.terms)) (front_up_to label_line refl) (front_makes_none id.ENTRY (omega arith) refl) (block_terminated k.terms))
       (step (label_line ∷ (main_line ∷ front)) (load_line id.PLACE) (extract_line (id.PLACE + 1) id.PLACE ∷ behind) (load (label_line ∷ (main_line ∷ front)) (extract_line (id.PLACE + 1) id.PLACE ∷ behind) id.PLACE (front_up_to (load_line id.PLACE) refl) (front_makes_none id.PLACE (omega arith) refl))
       (step (load_line id.PLACE ∷ (label_line ∷ (main_line ∷ front))) (extract_line (id.PLACE + 1) id.PLACE) behind (extract (load_line id.PLACE ∷ (label_line ∷ (main_line ∷ front))) behind (id.PLACE + 1) id.PLACE (front_up_to (extract_line (id.PLACE + 1) id.PLACE) refl) (front_makes_none (id.PLACE + 1) (omega arith) refl) load_found refl (omega arith))

@@ -42,7 +42,7 @@ module _ {S E T F M : Type 0} (l : Shared F M) (a : Program S E F) (b : Program 
   unfolding chosen
   chooses i = (choice i).1
 
-  -- the source's item has not made all of its steps yet, but asks nothing in the rest
+  -- the source's item has not made all of its moves yet, but asks nothing in the rest
   record Behind (i : ℕ) (h p : List ℕ) : Type 0 where
     rest : List ℕ
     is : chosen i h ≡ p ++ rest
@@ -60,7 +60,7 @@ module _ {S E T F M : Type 0} (l : Shared F M) (a : Program S E F) (b : Program 
     legal : (i : ℕ) → i < l.count → IsLegal (b.machine i) (v.items i) (b.start i)
     items : (i : ℕ) → i < l.count → u.items i ≡ chosen i (v.items i)
 
-  -- an item makes steps that ask nothing
+  -- an item makes moves that ask nothing
   record Ran (u : World F M) (i : ℕ) (rest : List ℕ) : Type 0 where
     world : World F M
     run : Leads l a u world
@@ -89,7 +89,7 @@ module _ {S E T F M : Type 0} (l : Shared F M) (a : Program S E F) (b : Program 
         others = λ j e. r.others j e ∙ pick_other i j _ _ e;
       }
 
-  -- the first k items have made all of their steps
+  -- the first k items have made all of their moves
   record Caught (k : ℕ) (u v : World F M) : Type 0 where
     world : World F M
     run : Leads l a u world
@@ -146,7 +146,7 @@ module _ {S E T F M : Type 0} (l : Shared F M) (a : Program S E F) (b : Program 
   behind_same : (u v : World F M) (i : ℕ) → i < l.count → Equal u v → Behind i (v.items i) (u.items i)
   behind_same u v i low e = record { rest = []; is = sym (e.items i low) ∙ sym (append-nil (u.items i)); unasked = refl }
 
-  -- what one more step of the target's item adds to what was asked
+  -- what one more move of the target's item adds to what was asked
   record Grown (u v : World F M) (i x : ℕ) : Type 0 where
     more : List ℕ
     is : chosen i (v.items i ++ x ∷ []) ≡ u.items i ++ more
@@ -174,7 +174,7 @@ module _ {S E T F M : Type 0} (l : Shared F M) (a : Program S E F) (b : Program 
         why = subst (λ z. (q.rest ≡ []) ⊎ ((a.machine i).status (after (a.machine i) z (a.start i)) ≡ Fails)) is q.why;
       }
 
-  -- the target's item made a step of its own
+  -- the target's item made a move of its own
   behind_own : (u v : World F M) (i x : ℕ) → Leads l a (opening m) u → i < l.count → Equal u v → IsLegal (b.machine i) (v.items i ++ x ∷ []) (b.start i) → (b.machine i).status (state b v i) ≡ Runs → Behind i (v.items i ++ x ∷ []) (u.items i)
   behind_own u v i x run low e legal runs =
       let g = grown u v i x run low e legal in
@@ -203,7 +203,7 @@ module _ {S E T F M : Type 0} (l : Shared F M) (a : Program S E F) (b : Program 
       let n = at_answer i x f e (u.items i) g.more g.rest asks_a (ap (λ z. told_by z x) (sym asks) ∙ g.adds) g.why in
       record { rest = n.0; is = g.is ∙ ap (λ z. u.items i ++ z) n.1 ∙ sym (append_assoc (u.items i) (x ∷ []) n.0); unasked = n.2 }
 
-  -- one more step is legal where the item makes a step or asks
+  -- one more move is legal where the item makes a move or asks
   legal_more : (v : World F M) (i x : ℕ) → IsLegal (b.machine i) (v.items i) (b.start i) → IsLive ((b.machine i).status (state b v i)) → IsLegal (b.machine i) (v.items i ++ x ∷ []) (b.start i)
   legal_more v i x legal live = legal_append (b.machine i) (v.items i) (x ∷ []) (b.start i) legal (live, tt)
 
@@ -216,7 +216,7 @@ module _ {S E T F M : Type 0} (l : Shared F M) (a : Program S E F) (b : Program 
     run : Leads l a u world
     equal_to : Equal world v
 
-  -- a first move of the source, and then each item's steps
+  -- a first move of the source's world, and then each item's
   closed : (u u1 v : World F M) → Leads l a u u1 → Close u1 v → Followed u v
   closed u u1 v run c =
       let q = caught l.count u1 v (omega arith) c in

@@ -1,3 +1,7 @@
+pub mod Breaking
+pub mod Least
+pub mod LeastBroken
 mod Samples
 pub mod Smallest
+pub mod Structured
 pub mod Unbroken

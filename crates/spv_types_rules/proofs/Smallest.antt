@@ -9,7 +9,7 @@ use Rattle.spv_module.specs.Grammar.{row_of}
 use Rattle.spv_module.specs.Words.{AreSpelled, IsSpelled}
 use Rattle.spv_module.proofs.Tests.{AreSpelled-tested}
 use Rattle.spv_types_rules.specs.Lines.{Func, line, whole, lines_of}
-use Rattle.spv_types_rules.specs.Functions.{exits, blocks_in, Block}
+use Rattle.spv_types_rules.proofs.Structured.{passes_structured}
 use Rattle.spv_types_rules.specs.Rules.{Rule, rules, is_kept_in, IsFunctionStructured, IsValid}
 use Rattle.spv_types_rules.specs.Smallest.{inst, smallest, smallest_body}
 
@@ -24,21 +24,17 @@ abbrev first_function : List Func → Func
 first_function [] = record { head = line false (inst 0 []); lines = [] }
 first_function (f ∷ _) = f
 
-abbrev first_block : List Block → Block
-first_block [] = record { label = 0; lines = [] }
-first_block (b ∷ _) = b
-
 abbrev the_function : Func
 the_function = first_function (whole (lines_of smallest_body)).functions
 
 structured : All IsFunctionStructured (whole (lines_of smallest_body)).functions
-structured = All-cons IsFunctionStructured the_function [] (exits (first_block (blocks_in the_function.lines)) refl) (All-nil IsFunctionStructured)
+structured = All-cons IsFunctionStructured the_function [] (passes_structured the_function.lines refl) (All-nil IsFunctionStructured)
 
 kept : list_all (λ (r : Rule). is_kept_in r (whole (lines_of smallest_body))) rules ≡ true
 kept = refl
 
 smallest_valid : IsValid smallest_body
-smallest_valid = record { kept = AllPass-from_list_all (λ (r : Rule). is_kept_in r (whole (lines_of smallest_body))) rules kept; structured = structured }
+smallest_valid = record { built = refl; kept = AllPass-from_list_all (λ (r : Rule). is_kept_in r (whole (lines_of smallest_body))) rules kept; structured = structured }
 
 pub is_spelled : (m : Module) → m ≡ smallest → IsSpelled m
 is_spelled m e = subst IsSpelled (sym e) smallest_spelled

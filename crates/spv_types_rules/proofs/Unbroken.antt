@@ -1,30 +1,30 @@
 -- A module is valid exactly where no line breaks a rule and it lacks nothing.
-use Rattle.std.proofs.Common.{◌≡◌, ℕ, Bool, true, false, List, [], ◌∷◌, length, refl, sym, subst, ap, ◌∙◌, inl, inr, eqb-true}
-use Rattle.std.specs.Prelude.{◌&&◌, ◌⊎◌, All, Contains, cond, ◌==◌}
-use Rattle.std.specs.List.{list_any}
+use Rattle.std.proofs.Common.{◌≡◌, ℕ, Bool, true, false, List, [], ◌∷◌, length, refl, sym, subst, ap, ◌∙◌, eqb-true}
+use Rattle.std.specs.Prelude.{◌&&◌, All, Contains, cond, ◌==◌}
 use Rattle.std.proofs.lemmas.List.Elements.{All-nil, All-cons, All-head, All-tail, All-weaker, All-contains, All-contains_itself}
 use Rattle.spv_module.specs.declared.module.Inst.{Inst}
 use Rattle.spv_module.specs.declared.op.TheConstants as op
-use Rattle.spv_types_rules.specs.Lines.{Line, Whole, Func, Spot, whole, lines_of, has_op, to_end, functions_in}
-use Rattle.spv_types_rules.specs.Functions.{Block, IsSequence, exits, blocks_in, IsStructured}
-use Rattle.spv_types_rules.specs.Rules.{Rule, rules, spot, onto, IsAt, Breaks, by_line, by_blocks, Lacks, by_whole, all_keep, is_kept_in, IsKept, IsFunctionStructured, IsValid, IsUnbroken, ValidIsUnbroken}
+use Rattle.spv_types_rules.specs.Lines.{Line, Whole, Func, Spot, whole, lines_of, onto, has_op, to_end, functions_in}
+use Rattle.spv_types_rules.specs.Structure.{IsStructured}
+use Rattle.spv_types_rules.proofs.Structured.{is_structured, structured_passes, passes_structured}
+use Rattle.spv_types_rules.specs.Rules.{Rule, rules, spot, Breaks, by_line, by_blocks, Lacks, by_whole, all_keep, IsKept, IsFunctionStructured, IsValid, IsUnbroken, ValidIsUnbroken}
 
-left : (x y : Bool) → x && y ≡ true → x ≡ true
+pub left : (x y : Bool) → x && y ≡ true → x ≡ true
 left true y e = refl
 left false y e = e
 
-right : (x y : Bool) → x && y ≡ true → y ≡ true
+pub right : (x y : Bool) → x && y ≡ true → y ≡ true
 right true y e = e
 right false true e = refl
 right false false e = e
 
-both : (x y : Bool) → x ≡ true → y ≡ true → x && y ≡ true
+pub both : (x y : Bool) → x ≡ true → y ≡ true → x && y ≡ true
 both x y p q = ap (λ z. z && y) p ∙ q
 
-never : (x : Bool) → x ≡ true → x ≡ false → ⊥
+pub never : (x : Bool) → x ≡ true → x ≡ false → ⊥
 never x p q = let e : true ≡ false = sym p ∙ q in cc
 
-so : (x : Bool) → (x ≡ false → ⊥) → x ≡ true
+pub so : (x : Bool) → (x ≡ false → ⊥) → x ≡ true
 so true h = refl
 so false h = absurd (h refl)
 
@@ -35,7 +35,7 @@ kept_onto keeps w [] ls e = e
 kept_onto keeps w (p ∷ b) ls e =
     right (keeps (record { whole = w; before = b; here = p; after = ls })) (all_keep keeps w (p ∷ b) ls) (kept_onto keeps w b (p ∷ ls) e)
 
-kept_at : (keeps : Spot → Bool) (w : Whole) (all b : List Line) (l : Line) (a : List Line) → all ≡ onto b (l ∷ a) → all_keep keeps w [] all ≡ true → keeps (record { whole = w; before = b; here = l; after = a }) ≡ true
+pub kept_at : (keeps : Spot → Bool) (w : Whole) (all b : List Line) (l : Line) (a : List Line) → all ≡ onto b (l ∷ a) → all_keep keeps w [] all ≡ true → keeps (record { whole = w; before = b; here = l; after = a }) ≡ true
 kept_at keeps w all b l a e h =
     left (keeps (record { whole = w; before = b; here = l; after = a })) (all_keep keeps w (l ∷ b) a)
     (kept_onto keeps w b (l ∷ a) (subst (λ (ls : List Line). all_keep keeps w [] ls ≡ true) e h))
@@ -63,7 +63,7 @@ behind_onto : (b ls : List Line) → AreStructured (functions_in (onto b ls)) �
 behind_onto [] ls h = h
 behind_onto (p ∷ b) ls h = behind (has_op op.FUNCTION p) p ls refl (behind_onto b (p ∷ ls) h)
 
-is_function : (l : Line) → l.op ≡ op.FUNCTION → has_op op.FUNCTION l ≡ true
+pub is_function : (l : Line) → l.op ≡ op.FUNCTION → has_op op.FUNCTION l ≡ true
 is_function l e = ap (λ n. n == op.FUNCTION) e
 
 structured_at : (all b : List Line) (l : Line) (a : List Line) → all ≡ onto b (l ∷ a) → l.op ≡ op.FUNCTION → AreStructured (functions_in all) → IsStructured (to_end a)
@@ -72,30 +72,8 @@ structured_at all b l a e f h =
     (subst (λ (c : Bool). AreStructured (cond c (function_of l a ∷ functions_in a) (functions_in a))) (is_function l f)
     (behind_onto b (l ∷ a) (subst (λ (ls : List Line). AreStructured (functions_in ls)) e h)))
 
--- what holds of the blocks of a sequence
-abbrev AreExits : List Block → Type 0
-AreExits [] = ⊥
-AreExits (b ∷ []) = list_any (has_op op.RETURN) b.lines ≡ true
-AreExits (b ∷ c ∷ bs) = ⊥
-
-are_exits : (bs : List Block) → IsSequence bs → AreExits bs
-are_exits _ (exits b e) = e
-
-one : (c : Bool) (b : Block) → list_any (has_op op.RETURN) b.lines ≡ c → IsSequence (b ∷ []) ⊎ (IsSequence (b ∷ []) → ⊥)
-one true b e = inl (exits b e)
-one false b e = inr (λ s. never (list_any (has_op op.RETURN) b.lines) (are_exits (b ∷ []) s) e)
-
-sequence_or_not : (bs : List Block) → IsSequence bs ⊎ (IsSequence bs → ⊥)
-sequence_or_not [] = inr (λ s. are_exits [] s)
-sequence_or_not (b ∷ []) = one (list_any (has_op op.RETURN) b.lines) b refl
-sequence_or_not (b ∷ c ∷ bs) = inr (λ s. are_exits (b ∷ (c ∷ bs)) s)
-
-decided : (bs : List Block) → IsSequence bs ⊎ (IsSequence bs → ⊥) → ((IsSequence bs → ⊥) → ⊥) → IsSequence bs
-decided bs (inl s) h = s
-decided bs (inr n) h = absurd (h n)
-
 only_if_structured : (ls : List Line) → ((IsStructured ls → ⊥) → ⊥) → IsStructured ls
-only_if_structured ls h = decided (blocks_in ls) (sequence_or_not (blocks_in ls)) h
+only_if_structured ls h = passes_structured ls (so (is_structured ls) (λ f. h (λ s. never (is_structured ls) (structured_passes ls s) f)))
 
 function_if : (c : Bool) (all b : List Line) (l : Line) (a : List Line) → all ≡ onto b (l ∷ a) → has_op op.FUNCTION l ≡ c → (l.op ≡ op.FUNCTION → (IsStructured (to_end a) → ⊥) → ⊥) → AreStructured (functions_in a) → AreStructured (functions_in (l ∷ a))
 function_if true all b l a e f h more =
@@ -127,14 +105,15 @@ module _ (body : List Inst) where
   unbroken_rule : IsUnbroken body → (r : Rule) → Contains rules r → IsKept body r
   unbroken_rule u r c =
       both (all_keep r.keeps (whole all) [] all) (r.has (whole all))
-      (kept_if r.keeps (whole all) all (λ b l a e f. u.lines r.number (length b) (by_line r (length b) b l a c (record { parts = e; at = refl }) f)) [] all refl)
-      (so (r.has (whole all)) (λ f. u.whole r.number (by_whole r c f)))
+      (kept_if r.keeps (whole all) all (λ b l a e f. (u.intact r.number).lines (length b) (by_line r (length b) b l a c (record { parts = e; at = refl }) f)) [] all refl)
+      (so (r.has (whole all)) (λ f. (u.intact r.number).whole (by_whole r c f)))
 
   unbroken_valid : IsUnbroken body → IsValid body
   unbroken_valid u = record {
+    built = u.built;
     kept = All-weaker (Contains rules) (IsKept body) (unbroken_rule u) rules (All-contains_itself rules);
-    structured = functions_if all (λ b l a e f g. u.lines 35 (length b) (by_blocks (length b) b l a (record { parts = e; at = refl }) f g)) [] all refl;
+    structured = functions_if all (λ b l a e f g. (u.intact 35).lines (length b) (by_blocks (length b) b l a (record { parts = e; at = refl }) f g)) [] all refl;
   }
 
 pub valid_is_unbroken : ValidIsUnbroken
-valid_is_unbroken body = (λ v. record { lines = valid_lines body v; whole = valid_whole body v }, unbroken_valid body)
+valid_is_unbroken body = (λ v. record { built = v.built; intact = λ n. record { lines = valid_lines body v n; whole = valid_whole body v n } }, unbroken_valid body)

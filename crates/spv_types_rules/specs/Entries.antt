@@ -1,5 +1,5 @@
 -- Rules 25 to 29: entry points, the size of groups, specialisation (SPIR-V 2.16.1 and 3.32.5; Vulkan, A.1).
-use Rattle.std.specs.Prelude.{ℕ, Bool, true, false, not, ◌==◌, ◌&&◌, ◌||◌, if◌then◌else◌, List, [], ◌∷◌, bytes_eq}
+use Rattle.std.specs.Prelude.{ℕ, ◌*◌, Bool, true, false, not, ◌==◌, ◌&&◌, ◌||◌, nat_le, if◌then◌else◌, List, [], ◌∷◌, filter, bytes_eq}
 use Rattle.std.specs.List.{list_any, list_all}
 use Rattle.spv_module.specs.declared.op.TheConstants as op
 use Rattle.spv_module.specs.declared.enumerant.storage_class.TheConstants as storage_class
@@ -7,8 +7,8 @@ use Rattle.spv_module.specs.declared.enumerant.decoration.TheConstants as decora
 use Rattle.spv_module.specs.declared.enumerant.built_in.TheConstants as built_in
 use Rattle.spv_module.specs.declared.enumerant.execution_model.TheConstants as execution_model
 use Rattle.spv_module.specs.Grammar.{is_among}
-use Rattle.spv_types_rules.specs.Lines.{Line, Whole, Spot, only, on, has_op, first, second, rest, is_some_of, defined, is_op_of, is_int_of, decorations}
-use Rattle.spv_types_rules.specs.Types.{id_of}
+use Rattle.spv_types_rules.specs.Lines.{Line, Whole, Spot, only, on, has_op, id_of, is_empty, first, second, rest, is_some_of, defined, to_end, is_op_of, is_int_of, decorations}
+use Rattle.spv_types_rules.specs.Ids.{is_entry_of, is_entry}
 use Rattle.spv_types_rules.specs.Variables.{used, first_literal}
 
 abbrev pub name_of : List (List ℕ) → List ℕ
@@ -25,14 +25,21 @@ keeps_entries = on op.ENTRY_POINT (λ s. (first s.here.numbers == execution_mode
 abbrev pub has_entry : Whole → Bool
 has_entry w = list_any (has_op op.ENTRY_POINT) w.lines
 
--- Rule 26. An entry point's function returns void, has no parameter and isn't called. (The opcodes of rule 0 have neither parameters nor calls.)
-abbrev pub is_entry_of : ℕ → Line → Bool
-is_entry_of f l = first l.ids == f
+-- Rule 26. An entry point's function returns void, has no parameter and isn't called (SPIR-V 2.16.1).
+abbrev pub has_no_parameter : List Line → Bool
+has_no_parameter lines = not (list_any (has_op op.FUNCTION_PARAMETER) lines)
+
+abbrev pub calls : ℕ → Line → Bool
+calls f l = first l.ids == f
+
+abbrev pub is_called : Whole → ℕ → Bool
+is_called w f = list_any (calls f) w.calls
 
 abbrev pub keeps_entry_functions : Spot → Bool
-keeps_entry_functions = on op.FUNCTION (λ s. only (list_any (is_entry_of (id_of s.here)) s.whole.entries) (λ s. is_op_of s.whole op.TYPE_VOID s.here.type) s)
+keeps_entry_functions = on op.FUNCTION (λ s. only (is_entry s.whole (id_of s.here)) (λ s.
+    is_op_of s.whole op.TYPE_VOID s.here.type && not (is_called s.whole (id_of s.here)) && has_no_parameter (to_end s.after)) s)
 
--- Rule 27. An entry point's interface lists exactly the Input variables that it uses, each once.
+-- Rule 27. An entry point's interface lists exactly the Input variables that its function uses, or one that this calls, directly or not, each once.
 abbrev pub are_distinct : List ℕ → Bool
 are_distinct [] = true
 are_distinct (n ∷ ns) = not (is_among ns n) && are_distinct ns
@@ -43,7 +50,18 @@ are_the_same ns ms = are_distinct ns && list_all (is_among ms) ns && list_all (i
 abbrev pub keeps_interfaces : Spot → Bool
 keeps_interfaces = on op.ENTRY_POINT (λ s. are_the_same (rest s.here.ids) (used s.whole (first s.here.ids) storage_class.INPUT))
 
--- Rule 28. Exactly one id is decorated WorkgroupSize, an OpSpecConstantComposite of three 32-bit OpSpecConstants with the SpecIds 0, 1 and 2. (The other way, one LocalSize for each entry point, is closed as long as rule 0 has no OpExecutionMode.)
+-- Rule 28. Either every entry point has one LocalSize, positive and of at most 1,024 in product, and nothing is decorated WorkgroupSize; or there is no mode, and exactly one id is decorated WorkgroupSize, an OpSpecConstantComposite of three 32-bit OpSpecConstants with the SpecIds 0, 1 and 2.
+abbrev pub is_product : List ℕ → Bool
+is_product (mode ∷ x ∷ y ∷ z ∷ []) = not (x == 0) && not (y == 0) && not (z == 0) && nat_le (x * y * z) 1024
+is_product _ = false
+
+abbrev pub is_one_size : List Line → Bool
+is_one_size (m ∷ []) = is_product m.numbers
+is_one_size _ = false
+
+abbrev pub has_one_size : Whole → Line → Bool
+has_one_size w e = is_one_size (filter (is_entry_of (first e.ids)) w.modes)
+
 abbrev pub is_size_mark : Line → Bool
 is_size_mark l = has_op op.DECORATE l && (first l.numbers == decoration.BUILT_IN) && (second l.numbers == built_in.WORKGROUP_SIZE)
 
@@ -73,7 +91,7 @@ is_sized_by w (id ∷ []) = is_some_of (defined w id) (is_group_size w)
 is_sized_by w _ = false
 
 abbrev pub has_group_size : Whole → Bool
-has_group_size w = is_sized_by w (sized w.marks)
+has_group_size w = (is_empty (sized w.marks) && list_all (has_one_size w) w.entries) || (is_empty w.modes && is_sized_by w (sized w.marks))
 
 -- Rule 29. Each OpSpecConstant has one SpecId, and no two have the same.
 abbrev pub has_spec_id : Whole → ℕ → Line → Bool

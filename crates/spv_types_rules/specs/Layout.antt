@@ -2,7 +2,7 @@
 use Rattle.std.specs.Prelude.{ℕ, ◌+◌, ◌*◌, ◌-◌, ◌/◌, ◌==◌, max, if◌then◌else◌, List, [], ◌∷◌, map, sum, zip, Option, Some, None}
 use Rattle.spv_module.specs.declared.op.TheConstants as op
 use Rattle.spv_module.specs.declared.enumerant.decoration.TheConstants as decoration
-use Rattle.spv_types_rules.specs.Lines.{Line, Whole, has_op, first, defined, parts_by, member_decorations}
+use Rattle.spv_types_rules.specs.Lines.{Line, Whole, has_op, has_op_among, first, defined, parts_by, length_of, decorations, member_decorations}
 
 abbrev pub most : List ℕ → ℕ
 most [] = 0
@@ -28,7 +28,10 @@ measured measure w (_ ∷ fuel) t = measure_by measure (defined w t) (map (measu
 -- ---- alignment
 
 abbrev pub alignment_by : Line → List ℕ → ℕ
-alignment_by l ns = if has_op op.TYPE_INT l then first l.numbers / 8 else (if has_op op.TYPE_VECTOR l then lanes l * first ns else most ns)
+alignment_by l ns =
+    if has_op op.TYPE_BOOL l then 1 else (
+    if has_op op.TYPE_INT l then first l.numbers / 8 else (
+    if has_op op.TYPE_VECTOR l then lanes l * first ns else most ns))
 
 abbrev pub alignment : Whole → ℕ → ℕ
 alignment w t = measured alignment_by w w.types t
@@ -47,11 +50,18 @@ end_of w struct n end far ((t, size) ∷ ms) =
     let at = offset_by (member_decorations w struct n decoration.OFFSET) end (alignment w t) in
     end_of w struct (n + 1) (at + size) (max far (at + size)) ms
 
+-- from one element to the next: the ArrayStride, or the element's size where there is none
+abbrev pub stride_by : List (List ℕ) → ℕ → ℕ
+stride_by [] size = size
+stride_by (literals ∷ _) size = first literals
+
 abbrev pub size_by : Whole → ℕ → Line → List ℕ → ℕ
 size_by w t l ns =
+    if has_op op.TYPE_BOOL l then 1 else (
     if has_op op.TYPE_INT l then first l.numbers / 8 else (
     if has_op op.TYPE_VECTOR l then lanes l * first ns else (
-    if has_op op.TYPE_STRUCT l then round_up (end_of w t 0 0 0 (zip l.ids ns)) (alignment w t) else 0))
+    if has_op op.TYPE_ARRAY l then length_of w l * stride_by (decorations w t decoration.ARRAY_STRIDE) (first ns) else (
+    if has_op op.TYPE_STRUCT l then round_up (end_of w t 0 0 0 (zip l.ids ns)) (alignment w t) else 0))))
 
 abbrev pub size_in : Whole → List Line → ℕ → ℕ
 size_in w [] t = 0
@@ -63,12 +73,16 @@ size w t = size_in w w.types t
 
 -- ---- scalars and depth
 
-abbrev pub scalars_by : Line → List ℕ → ℕ
-scalars_by l ns = if has_op op.TYPE_INT l then 1 else (if has_op op.TYPE_VECTOR l then first l.numbers else (if has_op op.TYPE_STRUCT l then sum ns else 0))
+abbrev pub scalars_by : Whole → Line → List ℕ → ℕ
+scalars_by w l ns =
+    if has_op_among (op.TYPE_BOOL ∷ op.TYPE_INT ∷ []) l then 1 else (
+    if has_op op.TYPE_VECTOR l then first l.numbers else (
+    if has_op op.TYPE_ARRAY l then length_of w l * first ns else (
+    if has_op op.TYPE_STRUCT l then sum ns else 0)))
 
 -- the scalars of a type, those of runtime arrays aside
 abbrev pub scalars : Whole → ℕ → ℕ
-scalars w t = measured scalars_by w w.types t
+scalars w t = measured (scalars_by w) w w.types t
 
 abbrev pub depth_by : Line → List ℕ → ℕ
 depth_by l ns = 1 + most ns

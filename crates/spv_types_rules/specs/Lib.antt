@@ -7,6 +7,7 @@ pub mod Lines
 pub mod Rules
 pub mod Sections
 pub mod Smallest
+pub mod Structure
 pub mod Types
 pub mod Values
 pub mod Variables

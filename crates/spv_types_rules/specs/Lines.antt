@@ -1,5 +1,5 @@
 -- A module's instructions as the rules of validity read them, and where one of them stands.
-use Rattle.std.specs.Prelude.{ℕ, Bool, true, false, not, ◌==◌, nat_eq, ◌&&◌, ◌||◌, if◌then◌else◌, List, [], ◌∷◌, ◌++◌, map, filter, find, Option, Some, None}
+use Rattle.std.specs.Prelude.{ℕ, ◌+◌, ◌*◌, ◌^◌, Bool, true, false, not, ◌==◌, nat_eq, ◌&&◌, ◌||◌, if◌then◌else◌, List, [], ◌∷◌, ◌++◌, map, filter, find, Option, Some, None}
 use Rattle.std.specs.List.{list_any}
 use Rattle.spv_module.specs.declared.module.Inst.{Inst}
 use Rattle.spv_module.specs.declared.module.Operand.{Operand}
@@ -10,37 +10,67 @@ use Rattle.spv_module.specs.Instructions.{ids, words}
 
 -- ---- the opcodes that the rules speak of
 
--- those with a result type and a result, and those with a result alone
-abbrev pub typed_opcodes : List ℕ
-typed_opcodes = op.EXT_INST ∷ op.CONSTANT ∷ op.SPEC_CONSTANT ∷ op.SPEC_CONSTANT_COMPOSITE ∷ op.FUNCTION ∷ op.VARIABLE ∷ op.LOAD ∷ op.ACCESS_CHAIN ∷ op.COMPOSITE_EXTRACT ∷ op.I_ADD ∷ []
-
 abbrev pub type_opcodes : List ℕ
-type_opcodes = op.TYPE_VOID ∷ op.TYPE_INT ∷ op.TYPE_VECTOR ∷ op.TYPE_RUNTIME_ARRAY ∷ op.TYPE_STRUCT ∷ op.TYPE_POINTER ∷ op.TYPE_FUNCTION ∷ []
-
-abbrev pub untyped_opcodes : List ℕ
-untyped_opcodes = op.STRING ∷ op.EXT_INST_IMPORT ∷ op.LABEL ∷ type_opcodes
-
--- those without a result
-abbrev pub plain_opcodes : List ℕ
-plain_opcodes = op.EXTENSION ∷ op.MEMORY_MODEL ∷ op.ENTRY_POINT ∷ op.CAPABILITY ∷ op.FUNCTION_END ∷ op.STORE ∷ op.DECORATE ∷ op.MEMBER_DECORATE ∷ op.RETURN ∷ []
-
--- all of them
-abbrev pub known_opcodes : List ℕ
-known_opcodes = typed_opcodes ++ (untyped_opcodes ++ plain_opcodes)
-
--- constants, and what an instruction of a block makes
-abbrev pub constant_opcodes : List ℕ
-constant_opcodes = op.CONSTANT ∷ op.SPEC_CONSTANT ∷ op.SPEC_CONSTANT_COMPOSITE ∷ []
-
-abbrev pub value_opcodes : List ℕ
-value_opcodes = op.LOAD ∷ op.ACCESS_CHAIN ∷ op.COMPOSITE_EXTRACT ∷ op.I_ADD ∷ []
+type_opcodes = op.TYPE_VOID ∷ op.TYPE_BOOL ∷ op.TYPE_INT ∷ op.TYPE_VECTOR ∷ op.TYPE_ARRAY ∷ op.TYPE_RUNTIME_ARRAY ∷ op.TYPE_STRUCT ∷ op.TYPE_POINTER ∷ op.TYPE_FUNCTION ∷ []
 
 -- the types that may stand in memory
 abbrev pub data_opcodes : List ℕ
-data_opcodes = op.TYPE_INT ∷ op.TYPE_VECTOR ∷ op.TYPE_RUNTIME_ARRAY ∷ op.TYPE_STRUCT ∷ []
+data_opcodes = op.TYPE_BOOL ∷ op.TYPE_INT ∷ op.TYPE_VECTOR ∷ op.TYPE_ARRAY ∷ op.TYPE_RUNTIME_ARRAY ∷ op.TYPE_STRUCT ∷ []
+
+abbrev pub array_opcodes : List ℕ
+array_opcodes = op.TYPE_ARRAY ∷ op.TYPE_RUNTIME_ARRAY ∷ []
+
+abbrev pub constant_opcodes : List ℕ
+constant_opcodes = op.CONSTANT ∷ op.SPEC_CONSTANT ∷ op.SPEC_CONSTANT_COMPOSITE ∷ op.CONSTANT_TRUE ∷ op.CONSTANT_FALSE ∷ op.CONSTANT_COMPOSITE ∷ op.CONSTANT_NULL ∷ []
+
+-- operators on ints; on bools; those that compare ints; shifts; conversions of a width
+abbrev pub arithmetic_opcodes : List ℕ
+arithmetic_opcodes = op.I_ADD ∷ op.I_SUB ∷ op.I_MUL ∷ op.U_DIV ∷ op.S_DIV ∷ op.U_MOD ∷ op.S_REM ∷ op.S_NEGATE ∷ op.BITWISE_OR ∷ op.BITWISE_XOR ∷ op.BITWISE_AND ∷ op.NOT ∷ []
+
+abbrev pub logic_opcodes : List ℕ
+logic_opcodes = op.LOGICAL_OR ∷ op.LOGICAL_AND ∷ op.LOGICAL_NOT ∷ []
+
+abbrev pub comparison_opcodes : List ℕ
+comparison_opcodes =
+    op.I_EQUAL ∷ op.I_NOT_EQUAL ∷ op.U_GREATER_THAN ∷ op.S_GREATER_THAN ∷ op.U_GREATER_THAN_EQUAL ∷ op.S_GREATER_THAN_EQUAL
+    ∷ op.U_LESS_THAN ∷ op.S_LESS_THAN ∷ op.U_LESS_THAN_EQUAL ∷ op.S_LESS_THAN_EQUAL ∷ []
+
+abbrev pub shift_opcodes : List ℕ
+shift_opcodes = op.SHIFT_RIGHT_LOGICAL ∷ op.SHIFT_RIGHT_ARITHMETIC ∷ op.SHIFT_LEFT_LOGICAL ∷ []
+
+abbrev pub conversion_opcodes : List ℕ
+conversion_opcodes = op.U_CONVERT ∷ op.S_CONVERT ∷ []
+
+abbrev pub atomic_opcodes : List ℕ
+atomic_opcodes =
+    op.ATOMIC_EXCHANGE ∷ op.ATOMIC_COMPARE_EXCHANGE ∷ op.ATOMIC_I_INCREMENT ∷ op.ATOMIC_I_DECREMENT ∷ op.ATOMIC_I_ADD ∷ op.ATOMIC_I_SUB ∷ op.ATOMIC_S_MIN
+    ∷ op.ATOMIC_U_MIN ∷ op.ATOMIC_S_MAX ∷ op.ATOMIC_U_MAX ∷ op.ATOMIC_AND ∷ op.ATOMIC_OR ∷ op.ATOMIC_XOR ∷ []
+
+abbrev pub composite_opcodes : List ℕ
+composite_opcodes = op.VECTOR_EXTRACT_DYNAMIC ∷ op.VECTOR_INSERT_DYNAMIC ∷ op.VECTOR_SHUFFLE ∷ op.COMPOSITE_CONSTRUCT ∷ op.COMPOSITE_EXTRACT ∷ op.COMPOSITE_INSERT ∷ []
+
+-- what makes a value in a block
+abbrev pub value_opcodes : List ℕ
+value_opcodes =
+    op.UNDEF ∷ op.FUNCTION_CALL ∷ op.LOAD ∷ op.ACCESS_CHAIN ∷ op.SELECT ∷ op.BITCAST
+    ∷ (conversion_opcodes ++ (composite_opcodes ++ (arithmetic_opcodes ++ (logic_opcodes ++ (comparison_opcodes ++ (shift_opcodes ++ atomic_opcodes))))))
+
+-- what a function has in all its blocks
+abbrev pub own_opcodes : List ℕ
+own_opcodes = op.VARIABLE ∷ op.FUNCTION_PARAMETER ∷ []
+
+abbrev pub merge_opcodes : List ℕ
+merge_opcodes = op.LOOP_MERGE ∷ op.SELECTION_MERGE ∷ []
 
 abbrev pub terminator_opcodes : List ℕ
-terminator_opcodes = op.RETURN ∷ []
+terminator_opcodes = op.RETURN ∷ op.RETURN_VALUE ∷ op.UNREACHABLE ∷ op.BRANCH ∷ op.BRANCH_CONDITIONAL ∷ op.SWITCH ∷ []
+
+-- those with a result type and a result, and those with a result alone; all others have neither
+abbrev pub typed_opcodes : List ℕ
+typed_opcodes = op.EXT_INST ∷ op.FUNCTION ∷ op.VARIABLE ∷ op.FUNCTION_PARAMETER ∷ (constant_opcodes ++ value_opcodes)
+
+abbrev pub untyped_opcodes : List ℕ
+untyped_opcodes = op.STRING ∷ op.EXT_INST_IMPORT ∷ op.LABEL ∷ type_opcodes
 
 -- ---- lines
 
@@ -76,13 +106,16 @@ line inside i =
     if is_among untyped_opcodes i.op then untyped_line inside i.op (ids i.operands) i.operands else
     plain_line inside i.op (ids i.operands) i.operands)
 
--- A function goes from OpFunction to OpFunctionEnd; where that is missing, to the next OpFunction, the first OpExtInst or the end.
+-- A function goes from OpFunction to OpFunctionEnd; where that is missing, to the next OpFunction, the first OpExtInst or the end. Of these lines OpFunctionEnd alone stands in it.
+abbrev pub inside_at : Bool → ℕ → Bool
+inside_at inside code = inside && not ((code == op.FUNCTION) || (code == op.EXT_INST))
+
 abbrev pub inside_after : Bool → ℕ → Bool
 inside_after inside code = (code == op.FUNCTION) || (inside && not ((code == op.FUNCTION_END) || (code == op.EXT_INST)))
 
 abbrev pub lines_from : Bool → List Inst → List Line
 lines_from inside [] = []
-lines_from inside (i ∷ is) = line inside i ∷ lines_from (inside_after inside i.op) is
+lines_from inside (i ∷ is) = line (inside_at inside i.op) i ∷ lines_from (inside_after inside i.op) is
 
 abbrev pub lines_of : List Inst → List Line
 lines_of body = lines_from false body
@@ -113,8 +146,9 @@ named l = with_id l.type l.ids
 abbrev pub names : ℕ → Line → Bool
 names id l = is_among (named l) id
 
+-- decorations and names
 abbrev pub is_mark : Line → Bool
-is_mark l = has_op_among (op.DECORATE ∷ op.MEMBER_DECORATE ∷ []) l
+is_mark l = has_op_among (op.DECORATE ∷ op.MEMBER_DECORATE ∷ op.NAME ∷ op.MEMBER_NAME ∷ []) l
 
 -- one number or two of a list, in order; 0 where it is shorter
 abbrev pub first : List ℕ → ℕ
@@ -128,6 +162,23 @@ second _ = 0
 abbrev pub rest : List ℕ → List ℕ
 rest [] = []
 rest (_ ∷ as_) = as_
+
+abbrev pub is_empty : {A : Type 0} → List A → Bool
+is_empty [] = true
+is_empty (_ ∷ _) = false
+
+-- the id that a line defines
+abbrev pub id_or_zero : Option ℕ → ℕ
+id_or_zero None = 0
+id_or_zero (Some r) = r
+
+abbrev pub id_of : Line → ℕ
+id_of l = id_or_zero l.result
+
+-- lines, the last first, put in front of others
+abbrev pub onto : List Line → List Line → List Line
+onto [] ls = ls
+onto (b ∷ before) ls = onto before (b ∷ ls)
 
 abbrev pub is_some_of : Option Line → (Line → Bool) → Bool
 is_some_of (Some l) test = test l
@@ -160,12 +211,14 @@ functions_in (l ∷ ls) = if has_op op.FUNCTION l then record { head = l; lines 
 
 pub record Whole : Type 0 where
   pub lines : List Line
-  -- the lines of capabilities, entry points, decorations, types and variables, and the functions
+  -- the lines of capabilities, entry points, their modes, names and decorations, types, variables and calls, and the functions
   pub capabilities : List Line
   pub entries : List Line
+  pub modes : List Line
   pub marks : List Line
   pub types : List Line
   pub variables : List Line
+  pub calls : List Line
   pub functions : List Func
 
 abbrev pub whole : List Line → Whole
@@ -173,9 +226,11 @@ whole lines = record {
   lines = lines;
   capabilities = filter (has_op op.CAPABILITY) lines;
   entries = filter (has_op op.ENTRY_POINT) lines;
+  modes = filter (has_op op.EXECUTION_MODE) lines;
   marks = filter is_mark lines;
   types = filter (has_op_among type_opcodes) lines;
   variables = filter (has_op op.VARIABLE) lines;
+  calls = filter (has_op op.FUNCTION_CALL) lines;
   functions = functions_in lines;
 }
 
@@ -185,6 +240,27 @@ pub record Spot : Type 0 where
   pub before : List Line
   pub here : Line
   pub after : List Line
+
+-- the lines of the function in which a line stands
+abbrev pub function_lines : Spot → List Line
+function_lines s = onto (to_end s.before) (to_end (s.here ∷ s.after))
+
+-- the OpFunctionParameter lines with which a function begins, and what stands behind them
+abbrev pub parameters : List Line → List Line
+parameters [] = []
+parameters (l ∷ ls) = if has_op op.FUNCTION_PARAMETER l then l ∷ parameters ls else []
+
+abbrev pub behind_parameters : List Line → List Line
+behind_parameters [] = []
+behind_parameters (l ∷ ls) = if has_op op.FUNCTION_PARAMETER l then behind_parameters ls else l ∷ ls
+
+-- the function of an id
+abbrev pub function_in : List Func → ℕ → List Line
+function_in [] id = []
+function_in (f ∷ fs) id = if defines id f.head then f.lines else function_in fs id
+
+abbrev pub function_of : Whole → ℕ → List Line
+function_of w id = function_in w.functions id
 
 -- a test of the lines of some opcodes
 abbrev pub only : Bool → (Spot → Bool) → Spot → Bool
@@ -252,10 +328,22 @@ abbrev pub is_int_of : Whole → ℕ → Option ℕ → Bool
 is_int_of w width None = false
 is_int_of w width (Some t) = is_int w width t
 
--- the types that a type holds, pointer and function types aside
+abbrev pub is_bool_of : Whole → Option ℕ → Bool
+is_bool_of w t = is_op_of w op.TYPE_BOOL t
+
+-- the types that a type holds, pointer and function types aside; an array's second operand is its length
+abbrev pub head_alone : List ℕ → List ℕ
+head_alone [] = []
+head_alone (t ∷ _) = t ∷ []
+
+abbrev pub held : Line → List ℕ
+held l =
+    if has_op op.TYPE_ARRAY l then head_alone l.ids else (
+    if has_op_among (op.TYPE_VECTOR ∷ op.TYPE_RUNTIME_ARRAY ∷ op.TYPE_STRUCT ∷ []) l then l.ids else [])
+
 abbrev pub parts_by : Option Line → List ℕ
 parts_by None = []
-parts_by (Some l) = if has_op_among (op.TYPE_VECTOR ∷ op.TYPE_RUNTIME_ARRAY ∷ op.TYPE_STRUCT ∷ []) l then l.ids else []
+parts_by (Some l) = held l
 
 abbrev pub parts : Whole → ℕ → List ℕ
 parts w t = parts_by (defined w t)
@@ -311,3 +399,44 @@ is_decorated w id kind = not (is_none (decorations w id kind))
 
 abbrev pub is_member_decorated : Whole → ℕ → ℕ → ℕ → Bool
 is_member_decorated w id member kind = not (is_none (member_decorations w id member kind))
+
+-- ---- numbers of constants
+
+abbrev pub number_of_constant : Line → ℕ
+number_of_constant l = first l.numbers + 2 ^ 32 * second l.numbers
+
+abbrev pub literal_by : Whole → Option Line → Option ℕ
+literal_by w None = None
+literal_by w (Some l) =
+    if has_op op.CONSTANT l && is_op_of w op.TYPE_INT l.type then Some (number_of_constant l) else (
+    if has_op op.CONSTANT_NULL l && is_op_of w op.TYPE_INT l.type then Some 0 else None)
+
+-- the number of a constant of an int type, of two words the low one first; that of an OpConstantNull is 0, and a spec constant has none yet
+abbrev pub literal : Whole → ℕ → Option ℕ
+literal w id = literal_by w (defined w id)
+
+-- the length of an array: its constant, or the default of its spec constant
+abbrev pub length_by : Option Line → ℕ
+length_by None = 0
+length_by (Some l) = first l.numbers
+
+abbrev pub length_of : Whole → Line → ℕ
+length_of w l = length_by (defined w (second l.ids))
+
+-- ---- calls
+
+abbrev pub callees_in : List Line → List ℕ
+callees_in [] = []
+callees_in (l ∷ ls) = if has_op op.FUNCTION_CALL l then first l.ids ∷ callees_in ls else callees_in ls
+
+-- the functions that a function calls
+abbrev pub callees : Whole → ℕ → List ℕ
+callees w f = callees_in (function_of w f)
+
+abbrev pub below_by : Whole → List Func → ℕ → List ℕ
+below_by w [] f = f ∷ []
+below_by w (_ ∷ fuel) f = f ∷ flattened (map (below_by w fuel) (callees w f))
+
+-- A function and all that it reaches by calls. No shortest way is longer than the list of functions.
+abbrev pub below : Whole → ℕ → List ℕ
+below w f = below_by w w.functions f

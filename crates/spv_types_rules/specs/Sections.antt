@@ -7,22 +7,30 @@ use Rattle.spv_module.specs.declared.enumerant.storage_class.TheConstants as sto
 use Rattle.spv_module.specs.declared.enumerant.addressing_model.TheConstants as addressing_model
 use Rattle.spv_module.specs.declared.enumerant.memory_model.TheConstants as memory_model
 use Rattle.spv_module.specs.Grammar.{is_among, capabilities}
-use Rattle.spv_types_rules.specs.Lines.{Line, Whole, Spot, on, has_op, known_opcodes, first, pointee, is_int, within}
+use Rattle.spv_types_rules.specs.Lines.{Line, Whole, Spot, on, has_op, first, pointee, is_int, within}
 
--- Rule 0. Each opcode is one that the compiler's modules use so far.
-abbrev pub is_known : Spot → Bool
-is_known s = is_among known_opcodes s.here.op
+-- Rule 0. Each opcode is one that the compiler's modules use so far. (The rule goes once all are in use.)
+abbrev pub built_opcodes : List ℕ
+built_opcodes =
+    op.EXT_INST ∷ op.CONSTANT ∷ op.SPEC_CONSTANT ∷ op.SPEC_CONSTANT_COMPOSITE ∷ op.FUNCTION ∷ op.VARIABLE ∷ op.LOAD ∷ op.ACCESS_CHAIN ∷ op.COMPOSITE_EXTRACT ∷ op.I_ADD
+    ∷ op.STRING ∷ op.EXT_INST_IMPORT ∷ op.LABEL ∷ op.TYPE_VOID ∷ op.TYPE_INT ∷ op.TYPE_VECTOR ∷ op.TYPE_RUNTIME_ARRAY ∷ op.TYPE_STRUCT ∷ op.TYPE_POINTER ∷ op.TYPE_FUNCTION
+    ∷ op.EXTENSION ∷ op.MEMORY_MODEL ∷ op.ENTRY_POINT ∷ op.CAPABILITY ∷ op.FUNCTION_END ∷ op.STORE ∷ op.DECORATE ∷ op.MEMBER_DECORATE ∷ op.RETURN ∷ []
 
--- Rule 1. The sections stand in order (SPIR-V 2.4). A variable outside functions is one of types, constants and globals. The later of two lines in the wrong order breaks the rule.
+abbrev pub is_built : Spot → Bool
+is_built s = is_among built_opcodes s.here.op
+
+-- Rule 1. The sections stand in order (SPIR-V 2.4): capabilities, extensions, imports, memory model, entry points, modes, strings, names, decorations, types with constants and globals, functions, reflection. A variable outside functions is a global; an OpUndef is a line of functions. The later of two lines in the wrong order breaks the rule.
 abbrev pub section_in : List (ℕ × ℕ) → ℕ → ℕ → ℕ
 section_in [] code other = other
 section_in (row ∷ rows) code other = if row.0 == code then row.1 else section_in rows code other
 
 abbrev pub sections : List (ℕ × ℕ)
 sections =
-    (op.CAPABILITY, 1) ∷ (op.EXTENSION, 2) ∷ (op.EXT_INST_IMPORT, 3) ∷ (op.MEMORY_MODEL, 4) ∷ (op.ENTRY_POINT, 5) ∷ (op.STRING, 7) ∷ (op.DECORATE, 9) ∷ (op.MEMBER_DECORATE, 9)
-    ∷ (op.TYPE_VOID, 10) ∷ (op.TYPE_INT, 10) ∷ (op.TYPE_VECTOR, 10) ∷ (op.TYPE_RUNTIME_ARRAY, 10) ∷ (op.TYPE_STRUCT, 10) ∷ (op.TYPE_POINTER, 10) ∷ (op.TYPE_FUNCTION, 10)
-    ∷ (op.CONSTANT, 10) ∷ (op.SPEC_CONSTANT, 10) ∷ (op.SPEC_CONSTANT_COMPOSITE, 10) ∷ (op.EXT_INST, 12) ∷ []
+    (op.CAPABILITY, 1) ∷ (op.EXTENSION, 2) ∷ (op.EXT_INST_IMPORT, 3) ∷ (op.MEMORY_MODEL, 4) ∷ (op.ENTRY_POINT, 5) ∷ (op.EXECUTION_MODE, 6) ∷ (op.STRING, 7)
+    ∷ (op.NAME, 8) ∷ (op.MEMBER_NAME, 8) ∷ (op.DECORATE, 9) ∷ (op.MEMBER_DECORATE, 9)
+    ∷ (op.TYPE_VOID, 10) ∷ (op.TYPE_BOOL, 10) ∷ (op.TYPE_INT, 10) ∷ (op.TYPE_VECTOR, 10) ∷ (op.TYPE_ARRAY, 10) ∷ (op.TYPE_RUNTIME_ARRAY, 10) ∷ (op.TYPE_STRUCT, 10) ∷ (op.TYPE_POINTER, 10) ∷ (op.TYPE_FUNCTION, 10)
+    ∷ (op.CONSTANT, 10) ∷ (op.SPEC_CONSTANT, 10) ∷ (op.SPEC_CONSTANT_COMPOSITE, 10) ∷ (op.CONSTANT_TRUE, 10) ∷ (op.CONSTANT_FALSE, 10) ∷ (op.CONSTANT_COMPOSITE, 10) ∷ (op.CONSTANT_NULL, 10)
+    ∷ (op.EXT_INST, 12) ∷ []
 
 abbrev pub globals_section : ℕ
 globals_section = 10
@@ -51,7 +59,7 @@ keeps_model = on op.MEMORY_MODEL (λ s. is_the_model s.here.numbers && not (list
 abbrev pub has_model : Whole → Bool
 has_model w = list_any (has_op op.MEMORY_MODEL) w.lines
 
--- Rule 3. The capabilities are distinct, and are those that are needed: Shader; those of the int types other than of 32 bits; and those of ints of 8 or 16 bits within a variable in storage buffers or push constants (SPIR-V 3.31).
+-- Rule 3. The capabilities are distinct, and are those that are needed: Shader; those of the int types of 64, 16 and 8 bits; and those of ints of 8 or 16 bits within a variable in storage buffers or push constants (SPIR-V 3.31).
 abbrev pub is_int_line : ℕ → Line → Bool
 is_int_line width l = has_op op.TYPE_INT l && (first l.numbers == width)
 

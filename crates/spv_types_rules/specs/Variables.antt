@@ -1,13 +1,12 @@
 -- Rules 16 to 24: variables, decorations, memory that isn't changed, pointers (SPIR-V 2.16.1 and 3.20; Vulkan, A.1 and 15.6).
-use Rattle.std.specs.Prelude.{ℕ, ◌+◌, ◌*◌, ◌^◌, Bool, true, false, not, ◌==◌, ◌&&◌, ◌||◌, nat_lt, nat_le, length, if◌then◌else◌, List, [], ◌∷◌, slice_get, Option, Some, None}
+use Rattle.std.specs.Prelude.{ℕ, Bool, true, false, not, ◌==◌, ◌&&◌, ◌||◌, nat_lt, nat_le, length, if◌then◌else◌, List, [], ◌∷◌, slice_get, Option, Some, None}
 use Rattle.std.specs.List.{list_any}
 use Rattle.spv_module.specs.declared.op.TheConstants as op
 use Rattle.spv_module.specs.declared.enumerant.storage_class.TheConstants as storage_class
 use Rattle.spv_module.specs.declared.enumerant.decoration.TheConstants as decoration
 use Rattle.spv_module.specs.declared.enumerant.built_in.TheConstants as built_in
 use Rattle.spv_module.specs.Grammar.{is_among}
-use Rattle.spv_types_rules.specs.Lines.{Line, Whole, Func, Spot, only, on, has_op, has_op_among, defines, first, second, rest, names, is_some_of, defined, is_op, is_op_of, is_int, storage, pointee, within, decorations, is_decorated, is_member_decorated}
-use Rattle.spv_types_rules.specs.Types.{id_of}
+use Rattle.spv_types_rules.specs.Lines.{Line, Whole, Spot, only, on, has_op, has_op_among, array_opcodes, atomic_opcodes, id_of, first, second, rest, names, is_some_of, defined, function_of, is_op, is_op_of, is_int, storage, pointee, held, within, is_under, decorations, is_decorated, is_member_decorated, literal, below}
 
 -- Rule 16. A variable has the storage class of its pointer type. Outside functions that is Input, Workgroup, StorageBuffer or PushConstant; inside it is Function, and the variables stand first in the first block.
 abbrev pub is_storage : ℕ → Option ℕ → Bool
@@ -60,14 +59,13 @@ is_same_place w v u =
 abbrev pub keeps_apart : Spot → Bool
 keeps_apart s = only (is_buffer s.here) (λ s. not (list_any (λ l. is_buffer l && is_same_place s.whole (id_of s.here) (id_of l)) s.before)) s
 
--- the function with an id
-abbrev pub function_in : List Func → ℕ → List Line
-function_in [] id = []
-function_in (f ∷ fs) id = if defines id f.head then f.lines else function_in fs id
+-- whether the lines of a function name an id
+abbrev pub function_names : Whole → ℕ → ℕ → Bool
+function_names w id f = list_any (names id) (function_of w f)
 
--- the ids of the variables outside functions, of one storage class, that a function names
+-- the ids of the variables outside functions, of one storage class, that a function or one below it names
 abbrev pub is_used : Whole → ℕ → ℕ → Line → Bool
-is_used w f storage v = not v.inside && (first v.numbers == storage) && list_any (names (id_of v)) (function_in w.functions f)
+is_used w f storage v = not v.inside && (first v.numbers == storage) && list_any (function_names w (id_of v)) (below w f)
 
 abbrev pub used_in : Whole → ℕ → ℕ → List Line → List ℕ
 used_in w f storage [] = []
@@ -76,7 +74,7 @@ used_in w f storage (v ∷ vs) = if is_used w f storage v then id_of v ∷ used_
 abbrev pub used : Whole → ℕ → ℕ → List ℕ
 used w f storage = used_in w f storage w.variables
 
--- Rule 19. A PushConstant variable points to a Block struct, and an entry point uses at most one (Vulkan, A.1). It uses what the lines of its function name: no opcode of rule 0 calls.
+-- Rule 19. A PushConstant variable points to a Block struct, and an entry point uses at most one (Vulkan, A.1). It uses what its function names, or one that this calls, directly or not.
 abbrev pub keeps_push : Spot → Bool
 keeps_push s =
     on op.VARIABLE (λ s. only (first s.here.numbers == storage_class.PUSH_CONSTANT) (λ s. is_block_struct s.whole (pointee s.whole s.here.type)) s) s
@@ -105,13 +103,17 @@ keeps_input = on op.VARIABLE (λ s. only (first s.here.numbers == storage_class.
 abbrev pub is_variable_of : ℕ → Line → Bool
 is_variable_of storage l = has_op op.VARIABLE l && (first l.numbers == storage)
 
-abbrev pub is_target : ℕ → List ℕ → Line → Bool
-is_target kind literals l =
+-- a variable, or a parameter that is a pointer
+abbrev pub is_memory : Whole → Line → Bool
+is_memory w l = has_op op.VARIABLE l || (has_op op.FUNCTION_PARAMETER l && is_op_of w op.TYPE_POINTER l.type)
+
+abbrev pub is_target : Whole → ℕ → List ℕ → Line → Bool
+is_target w kind literals l =
     if kind == decoration.SPEC_ID then has_op op.SPEC_CONSTANT l else (
     if kind == decoration.BLOCK then has_op op.TYPE_STRUCT l else (
-    if kind == decoration.ARRAY_STRIDE then has_op op.TYPE_RUNTIME_ARRAY l else (
-    if kind == decoration.BUILT_IN then (if first literals == built_in.WORKGROUP_SIZE then has_op op.SPEC_CONSTANT_COMPOSITE l else is_variable_of storage_class.INPUT l) else (
-    if is_among (decoration.RESTRICT ∷ decoration.ALIASED ∷ decoration.NON_WRITABLE ∷ []) kind then has_op op.VARIABLE l else
+    if kind == decoration.ARRAY_STRIDE then has_op_among array_opcodes l else (
+    if kind == decoration.BUILT_IN then (if first literals == built_in.WORKGROUP_SIZE then has_op_among (op.CONSTANT_COMPOSITE ∷ op.SPEC_CONSTANT_COMPOSITE ∷ []) l else is_variable_of storage_class.INPUT l) else (
+    if is_among (decoration.RESTRICT ∷ decoration.ALIASED ∷ decoration.NON_WRITABLE ∷ []) kind then is_memory w l else
     is_among (decoration.BINDING ∷ decoration.DESCRIPTOR_SET ∷ []) kind && is_buffer l))))
 
 abbrev pub is_member_target : ℕ → ℕ → Line → Bool
@@ -122,22 +124,14 @@ is_same_mark l m = has_op l.op m && (first l.ids == first m.ids) && (first l.num
 
 abbrev pub keeps_marks : Spot → Bool
 keeps_marks s =
-    on op.DECORATE (λ s. is_some_of (defined s.whole (first s.here.ids)) (is_target (first s.here.numbers) (rest s.here.numbers)) && not (list_any (is_same_mark s.here) s.before)) s
+    on op.DECORATE (λ s. is_some_of (defined s.whole (first s.here.ids)) (is_target s.whole (first s.here.numbers) (rest s.here.numbers)) && not (list_any (is_same_mark s.here) s.before)) s
     && on op.MEMBER_DECORATE (λ s. is_some_of (defined s.whole (first s.here.ids)) (is_member_target (first s.here.numbers) (second s.here.numbers)) && not (list_any (is_same_mark s.here) s.before)) s
 
--- Rule 22. Memory in Input or PushConstant, or decorated NonWritable, isn't stored to. What a pointer names is reached from a variable by its chains' indices; a member on the way or below may be decorated too.
+-- Rule 22. Memory in Input or PushConstant, or decorated NonWritable, isn't changed: no store and no atomic names it. What a pointer names is reached from a variable or parameter by its chains' indices; a member on the way or below may be decorated too.
 -- what a pointer leads to: whether it is read-only by what was on the way, and the type, if there is one
 pub record Place : Type 0 where
   pub fixed : Bool
   pub type : Option ℕ
-
-abbrev pub literal_by : Whole → Option Line → Option ℕ
-literal_by w None = None
-literal_by w (Some l) = if has_op op.CONSTANT l && is_op_of w op.TYPE_INT l.type then Some (first l.numbers + 2 ^ 32 * second l.numbers) else None
-
--- the number of a constant of an int type; of one of two words the low one stands first
-abbrev pub literal : Whole → ℕ → Option ℕ
-literal w id = literal_by w (defined w id)
 
 abbrev pub member_by : Line → Option ℕ → Option ℕ
 member_by l None = None
@@ -155,7 +149,7 @@ abbrev pub step_in : Whole → Bool → ℕ → Option Line → ℕ → Place
 step_in w fixed t None index = record { fixed = fixed; type = None }
 step_in w fixed t (Some l) index =
     if has_op op.TYPE_STRUCT l then record { fixed = fixed || is_fixed_member w t (literal w index); type = member_by l (literal w index) }
-    else record { fixed = fixed; type = if has_op_among (op.TYPE_VECTOR ∷ op.TYPE_RUNTIME_ARRAY ∷ []) l then head_of l.ids else None }
+    else record { fixed = fixed; type = head_of (held l) }
 
 abbrev pub step_from : Whole → Bool → Option ℕ → ℕ → Place
 step_from w fixed None index = record { fixed = fixed; type = None }
@@ -200,8 +194,15 @@ abbrev pub is_fixed : Whole → Place → Bool
 is_fixed w p = p.fixed || holds_fixed w p.type
 
 abbrev pub keeps_fixed : Spot → Bool
-keeps_fixed = on op.STORE (λ s. not (is_fixed s.whole (place_from s.whole s.whole.lines (first s.here.ids))))
+keeps_fixed s = only (has_op_among (op.STORE ∷ atomic_opcodes) s.here) (λ s. not (is_fixed s.whole (place_from s.whole s.whole.lines (first s.here.ids)))) s
 
--- Rule 24. Pointers come from variables and access chains alone. (A function whose result type is a pointer makes none.)
+-- Rule 23. No bool stands under StorageBuffer, PushConstant or Workgroup (SPIR-V 2.16.1).
+abbrev pub shared_storage : List ℕ
+shared_storage = storage_class.STORAGE_BUFFER ∷ storage_class.PUSH_CONSTANT ∷ storage_class.WORKGROUP ∷ []
+
+abbrev pub keeps_bools : Spot → Bool
+keeps_bools = on op.TYPE_BOOL (λ s. not (is_under s.whole shared_storage (id_of s.here)))
+
+-- Rule 24. Pointers come from variables, parameters and access chains alone. (A function whose result type is a pointer makes none.)
 abbrev pub keeps_pointers : Spot → Bool
-keeps_pointers s = not (is_op_of s.whole op.TYPE_POINTER s.here.type) || has_op_among (op.FUNCTION ∷ op.VARIABLE ∷ op.ACCESS_CHAIN ∷ []) s.here
+keeps_pointers s = not (is_op_of s.whole op.TYPE_POINTER s.here.type) || has_op_among (op.FUNCTION ∷ op.VARIABLE ∷ op.ACCESS_CHAIN ∷ op.FUNCTION_PARAMETER ∷ []) s.here
