@@ -1,5 +1,5 @@
 -- What the source, the launch and the buffers hold decides the answer of a run, where nothing outside fails.
-use Rattle.std.proofs.Common.{◌≡◌, ℕ, ◌⊎◌, inl, inr, IsTrue, List, [], ◌∷◌, Option, Some, None, Result, Ok, Err, refl, sym, ap, ◌∙◌, subst, arith}
+use Rattle.std.proofs.Common.{◌≡◌, ℕ, ◌⊎◌, inl, inr, true, false, IsTrue, List, [], ◌∷◌, Option, Some, None, Result, Ok, Err, refl, sym, ap, ◌∙◌, subst, arith}
 use Rattle.clv_place.specs.declared.stop.Offence.{Offence}
 use Rattle.clv_io.specs.Faults.{Rose}
 use Rattle.clv_io.specs.Files.{FilesState, IsTooLarge}
@@ -7,7 +7,7 @@ use Rattle.launch_text.specs.declared.launch.Launch.{Launch}
 use Rattle.launch_text.specs.declared.launch.Schedule.{Schedule}
 use Rattle.launch_text.specs.declared.launch.Schedule.TheVariants.{Robin, Mixed}
 use Rattle.launch_text.specs.LaunchText.{Fault, launch_of}
-use Rattle.launch_text.specs.Rules.{LoadedLaunch, loaded, Parameter, KeepsRules, BrokenRule, Breaks, no_kernel, not_given, past_end, other_kind, other_size, unfilled, over_limits, IsLeastBroken}
+use Rattle.launch_text.specs.Rules.{LoadedLaunch, loaded, Taken, KeepsRules, BrokenRule, breaks, Breaks, IsLeastBroken}
 use Rattle.clv_worlds.specs.Worlds.{IsDefined}
 use Rattle.spv_meaning.specs.Schedule.{Invocations, Ending, IsDone, HasTrapped, IsSpent}
 use Rattle.clv_engine.specs.declared.form.Kernel.{Kernel}
@@ -104,17 +104,11 @@ loaded_is files files2 source launch text said q turn bs g a r turn2 l is =
 
 -- ---- no run where a rule is broken
 
-keeps_same : (l : LoadedLaunch) (takes : Option (List Parameter)) (ps qs : List Parameter) → takes ≡ Some ps → takes ≡ Some qs → KeepsRules ps l → KeepsRules qs l
-keeps_same l takes ps qs e f k = subst (λ z. KeepsRules z l) (some_same ps qs (sym e ∙ f)) k
-
-keeps_breaks : (l : LoadedLaunch) (takes : Option (List Parameter)) (ps : List Parameter) (b : BrokenRule) → takes ≡ Some ps → KeepsRules ps l → Breaks l takes b → ⊥
-keeps_breaks l takes ps b e k (no_kernel is none) = some_never ps (sym e ∙ none)
-keeps_breaks l takes ps b e k (not_given qs n is t low none) = (let j = keeps_same l takes ps qs e t k in let x = j.given n low in none x.0 x.1)
-keeps_breaks l takes ps b e k (past_end qs n kind is t given high) = (let j = keeps_same l takes ps qs e t k in let low = j.within n kind given in omega (arith, low, high))
-keeps_breaks l takes ps b e k (other_kind qs n p kind is t at given other) = (let j = keeps_same l takes ps qs e t k in other (j.kinds n p kind at given))
-keeps_breaks l takes ps b e k (other_size qs n p kind is t at given other) = (let j = keeps_same l takes ps qs e t k in other (j.sizes n p kind at given))
-keeps_breaks l takes ps b e k (unfilled qs is t none) = none k.fills
-keeps_breaks l takes ps b e k (over_limits qs is t none) = none k.limits
+keeps_breaks : (l : LoadedLaunch) (takes : Option Taken) (t : Taken) (b : BrokenRule) → takes ≡ Some t → KeepsRules t l → Breaks l takes b → ⊥
+keeps_breaks l takes t b e k broken =
+    let here : breaks l (Some t) b.number b.argument ≡ true = subst (λ o. breaks l o b.number b.argument ≡ true) e broken in
+    let never : true ≡ false = sym here ∙ k.none b.number b.argument in
+    cc
 
 broken_runs : (files files2 : FilesState) (source launch text said : List ℕ) (q : Launch) (turn : ℕ) (bs : List (List ℕ)) → RunGiven files files2 source launch text said → IsAsked files text said q turn bs → ((k : Kernel) → IsIn text k → (b : BrokenRule) × IsLeastBroken (loaded q bs) (takes_of k q.kernel) b) → (r : IsReady files source launch) (turn2 : ℕ) (l : LoadedLaunch) (e : Ending) (w : Invocations) → IsLoaded r turn2 l → ModuleRuns r.compiled.made l turn2 r.plan.steps e w → ⊥
 broken_runs files files2 source launch text said q turn bs g a h r turn2 l e w is runs =
@@ -123,7 +117,7 @@ broken_runs files files2 source launch text said q turn bs g a h r turn2 l e w i
     let x = h k (ready_in files files2 source launch text said g r) in
     let here : IsLeastBroken l (takes_of k l.kernel) x.0 = subst (λ (z : LoadedLaunch). IsLeastBroken z (takes_of k z.kernel) x.0) (sym (loaded_is files files2 source launch text said q turn bs g a r turn2 l is)) x.1 in
     let there = r.compiled.good.binding.breaks l x.0 here in
-    keeps_breaks l _ runs.binds.parameters x.0 (bound_taken body l runs.start runs.binds) runs.binds.rules there.breaks
+    keeps_breaks l _ runs.binds.taken x.0 (bound_taken body l runs.start runs.binds) runs.binds.rules there.breaks
 
 -- ---- no trap where the source is defined
 

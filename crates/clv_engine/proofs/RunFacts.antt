@@ -1,5 +1,6 @@
 -- What the machine's run comes to, for the launch.
-use Rattle.std.proofs.Common.{◌≡◌, ℕ, zero, suc, ◌+◌, ◌≤◌, Bool, List, [], ◌∷◌, length, refl, sym, ap, ◌∙◌, subst, arith}
+use Rattle.std.proofs.Common.{◌≡◌, ℕ, zero, suc, ◌+◌, ◌≤◌, Bool, true, false, not, ◌&&◌, leb, List, [], ◌∷◌, length, None, refl, sym, ap, ◌∙◌, subst, arith}
+use Rattle.std.proofs.lemmas.Bool.{leb-true}
 use Rattle.launch_text.specs.WorkItems.{volume}
 use Rattle.launch_text.specs.declared.launch.Launch.{Launch}
 use Rattle.launch_text.specs.Rules.{LoadedLaunch, loaded}
@@ -75,7 +76,12 @@ pub comes_from : (m : Module) (launch : Launch) (turn : ℕ) (bs : Buffers) (s :
 comes_from m launch turn bs s o e b r = subst (λ (k : Module). ComesFrom k launch turn bs o) e (record { is = comes_out s (loaded launch bs) turn launch.steps o (subst (λ (k : Module). BindsTo k.body (loaded launch bs) (start_from s)) (sym e) b) r })
 
 -- the grid of a launch that binds
+grid_kept : (a b : Bool) → not (a && b) ≡ false → b ≡ true
+grid_kept a true e = refl
+grid_kept true false e = (let never : true ≡ false = e in cc)
+grid_kept false false e = (let never : true ≡ false = e in cc)
+
 pub few_items : (m : Module) (launch : Launch) (bs : Buffers) (s : Begin) → BindsTo m.body (loaded launch bs) (start_from s) → volume (start_from s).global ≤ 16384
 few_items m launch bs s b =
     let from = starts_from m.body (loaded launch bs) (start_from s) b in
-    subst (λ g. volume g ≤ 16384) (sym from.global) b.rules.limits.grid
+    subst (λ g. volume g ≤ 16384) (sym from.global) (leb-true (volume (loaded launch bs).global) 16384 (grid_kept (leb (volume (loaded launch bs).local) 1024) (leb (volume (loaded launch bs).global) 16384) (b.rules.none 19 None)))

@@ -14,7 +14,8 @@ use Rattle.spv_reflect.specs.Reflection.{rows_of}
 use Rattle.spv_meaning.specs.Start.{Start}
 use Rattle.spv_meaning.specs.Invocation.{invocation, first_run}
 use Rattle.clv_engine.specs.Command.{words_text}
-use Rattle.spv_meaning.specs.Worlds.{after_event, group_of}
+use Rattle.launch_text.specs.WorkItems.{group_of}
+use Rattle.spv_meaning.specs.Worlds.{after_event}
 use Rattle.spv_meaning.specs.Invocation.{given_of}
 use Rattle.clv_engine.specs.Promises.{surroundings_of}
 

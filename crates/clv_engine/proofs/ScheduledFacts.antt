@@ -1,10 +1,10 @@
 -- What a run by turns comes to: it is a run of the module's world, and where it is done that is complete.
 use Rattle.std.proofs.Common.{◌≡◌, ℕ, ◌*◌, ◌≤◌, List, Option, Some, None, sym, ap, subst}
 use Rattle.launch_text.specs.WorkItems.{Sizes}
-use Rattle.launch_text.specs.Rules.{LoadedLaunch, Parameter}
+use Rattle.launch_text.specs.Rules.{LoadedLaunch, Taken}
 use Rattle.spv_module.specs.declared.module.Inst.{Inst}
 use Rattle.spv_module.specs.declared.module.Module.{Module}
-use Rattle.spv_module.specs.Options.{◌>>=◌, for_each}
+use Rattle.spv_module.specs.Options.{◌>>=◌}
 use Rattle.spv_reflect.specs.declared.rows.KernelRow.{KernelRow}
 use Rattle.spv_reflect.specs.declared.rows.Reflection.{Reflection}
 use Rattle.spv_reflect.specs.Reflection.{rows_of}
@@ -14,7 +14,7 @@ use Rattle.spv_meaning.specs.Start.{Start}
 use Rattle.spv_meaning.specs.Worlds.{Buffers, shared_over, module_world}
 use Rattle.spv_meaning.proofs.Schedules.{run_leads, run_completes, run_counts, run_fails}
 use Rattle.spv_meaning.specs.Schedule.{Invocations, Trapped, Ending, IsDone, HasTrapped, IsSpent, ScheduledRun}
-use Rattle.vk_bind.specs.Binding.{parameter_of, kernel_among, start_of, BindsTo}
+use Rattle.vk_bind.specs.Binding.{taken_of, kernel_among, start_of, BindsTo}
 use Rattle.clv_engine.specs.declared.form.Kernel.{Kernel}
 use Rattle.clv_engine.specs.Promises.{Fits}
 use Rattle.clv_engine.specs.LaunchWorlds.{shared_of, source_world, WorldSimulation}
@@ -56,29 +56,29 @@ pub record StartsFrom (l : LoadedLaunch) (start : Start) : Type 0 where
   pub local : start.local ≡ l.local
   pub buffers : start.buffers ≡ l.buffers
 
-abbrev Starting : LoadedLaunch → Option (List Parameter × Start) → Type 0
-Starting l bound = (ps : List Parameter) (start : Start) → bound ≡ Some (ps, start) → StartsFrom l start
+abbrev Starting : LoadedLaunch → Option (Taken × Start) → Type 0
+Starting l bound = (ps : Taken) (start : Start) → bound ≡ Some (ps, start) → StartsFrom l start
 
 starting_none : (l : LoadedLaunch) → Starting l None
-starting_none l ps start e = absurd (let c : ◌≡◌ {A = Option (List Parameter × Start)} None (Some (ps, start)) = e in cc)
+starting_none l ps start e = absurd (let c : ◌≡◌ {A = Option (Taken × Start)} None (Some (ps, start)) = e in cc)
 
-starting_last : (r : Reflection) (row : KernelRow) (l : LoadedLaunch) (o : Option (List Parameter)) → Starting l (o >>= λ ps. Some (ps, start_of r row l))
+starting_last : (r : Reflection) (row : KernelRow) (l : LoadedLaunch) (o : Option Taken) → Starting l (o >>= λ ps. Some (ps, start_of r row l))
 starting_last r row l None ps start e = starting_none l ps start e
 starting_last r row l (Some qs) ps start e =
-    let c : ◌≡◌ {A = List Parameter × Start} (qs, start_of r row l) (ps, start) = cc in
-    let s : start_of r row l ≡ start = ap (λ (q : List Parameter × Start). q.1) c in
+    let c : ◌≡◌ {A = Taken × Start} (qs, start_of r row l) (ps, start) = cc in
+    let s : start_of r row l ≡ start = ap (λ (q : Taken × Start). q.1) c in
     record { global = ap (λ (z : Start). z.global) (sym s); local = ap (λ (z : Start). z.local) (sym s); buffers = ap (λ (z : Start). z.buffers) (sym s) }
 
-starting_row : (body : List Inst) (r : Reflection) (l : LoadedLaunch) (o : Option KernelRow) → Starting l (o >>= λ row. for_each (parameter_of body) row.args >>= λ ps. Some (ps, start_of r row l))
+starting_row : (body : List Inst) (r : Reflection) (l : LoadedLaunch) (o : Option KernelRow) → Starting l (o >>= λ row. taken_of body row >>= λ ps. Some (ps, start_of r row l))
 starting_row body r l None = starting_none l
-starting_row body r l (Some row) = starting_last r row l (for_each (parameter_of body) row.args)
+starting_row body r l (Some row) = starting_last r row l (taken_of body row)
 
-starting_rows : (body : List Inst) (l : LoadedLaunch) (o : Option Reflection) → Starting l (o >>= λ r. kernel_among l.kernel r.kernels >>= λ row. for_each (parameter_of body) row.args >>= λ ps. Some (ps, start_of r row l))
+starting_rows : (body : List Inst) (l : LoadedLaunch) (o : Option Reflection) → Starting l (o >>= λ r. kernel_among l.kernel r.kernels >>= λ row. taken_of body row >>= λ ps. Some (ps, start_of r row l))
 starting_rows body l None = starting_none l
 starting_rows body l (Some r) = starting_row body r l (kernel_among l.kernel r.kernels)
 
 pub starts_from : (body : List Inst) (l : LoadedLaunch) (start : Start) → BindsTo body l start → StartsFrom l start
-starts_from body l start b = starting_rows body l (rows_of body) b.parameters start b.binding
+starts_from body l start b = starting_rows body l (rows_of body) b.taken start b.binding
 
 pub run_comes : (m : Module) (l : LoadedLaunch) (turn budget : ℕ) (e : Ending) (w : Invocations) (r : ModuleRuns m l turn budget e w) → Comes m.body r.start (shared_of l) (opening l.buffers) e w
 run_comes m l turn budget e w r =

@@ -1,11 +1,11 @@
 -- What the compiler promises of a module that it makes for a text.
-use Rattle.std.specs.Prelude.{◌≡◌, ℕ, ◌<◌, List, [], ◌∷◌, Option, Some, None, if◌then◌else◌}
+use Rattle.std.specs.Prelude.{◌≡◌, ℕ, ◌<◌, false, List, [], ◌∷◌, Option, Some, None, if◌then◌else◌}
 use Rattle.std.specs.Str.{bytes_eq}
 use Rattle.spv_module.specs.declared.module.Inst.{Inst}
 use Rattle.clv_steps.specs.Runs.{Simulates}
 use Rattle.clv_engine.specs.declared.form.Kernel.{Kernel}
 use Rattle.launch_text.specs.WorkItems.{volume, global_id_in}
-use Rattle.launch_text.specs.Rules.{LoadedLaunch, Parameter, GlobalPointer, IsLaunch, KeepsRules, BrokenRule, IsLeastBroken, buffer_given, size_of}
+use Rattle.launch_text.specs.Rules.{LoadedLaunch, BufferPointer, Taken, IsLaunch, KeepsRules, BrokenRule, IsLeastBroken, buffer_given, size_of}
 use Rattle.spv_module.specs.Options.{or_default}
 use Rattle.spv_meaning.specs.Events.{Asked}
 use Rattle.spv_meaning.specs.Start.{Start}
@@ -13,15 +13,19 @@ use Rattle.spv_meaning.specs.Invocation.{invocation, first_run, given_of}
 use Rattle.vk_bind.specs.Binding.{BindsTo, takes_in}
 use Rattle.clv_engine.specs.SourceItem.{Surroundings, source_item, weight, first_state}
 
--- A launch fits the kernel: it names it (L10), and keeps the rules for what it takes, a pointer to elements of four bytes.
+-- The kernel takes a pointer to elements of four bytes, each of which is one scalar, and requires no size of a group.
+abbrev pub kernel_takes : Taken
+kernel_takes = record { parameters = BufferPointer (record { size = 4; scalars = (0, 32) ∷ [] }) false ∷ []; required = [] }
+
+-- A launch fits the kernel: it names it (L10), and keeps the rules for what it takes.
 pub record Fits (k : Kernel) (l : LoadedLaunch) : Type 0 where
   pub launch : IsLaunch l
   pub kernel : l.kernel ≡ k.name ∷ []
-  pub rules : KeepsRules (GlobalPointer 4 ∷ []) l
+  pub rules : KeepsRules kernel_takes l
 
 -- what the kernel of a name takes; none where it has another name
-abbrev pub takes_of : Kernel → List ℕ → Option (List Parameter)
-takes_of k name = if bytes_eq (k.name ∷ []) name then Some (GlobalPointer 4 ∷ []) else None
+abbrev pub takes_of : Kernel → List ℕ → Option Taken
+takes_of k name = if bytes_eq (k.name ∷ []) name then Some kernel_takes else None
 
 -- what an item of the launch sees
 abbrev pub surroundings_of : LoadedLaunch → ℕ → Surroundings

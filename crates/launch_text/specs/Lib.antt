@@ -4,5 +4,6 @@ pub mod LaunchText
 pub mod Lines
 pub mod Rules
 pub mod Said
+pub mod Seen
 pub mod WorkItems
 pub mod Readable

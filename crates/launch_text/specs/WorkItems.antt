@@ -1,5 +1,5 @@
 -- The values of the work-item functions (OpenCL C 1.2, 6.12.1).
-use Rattle.std.specs.Prelude.{ℕ, ◌*◌, ◌/◌, ◌%◌, nat_lt, if◌then◌else◌, List, slice_index}
+use Rattle.std.specs.Prelude.{ℕ, ◌+◌, ◌*◌, ◌/◌, ◌%◌, nat_lt, if◌then◌else◌, List, [], ◌∷◌, slice_index}
 use Rattle.launch_text.specs.declared.launch.LaunchSizes.{LaunchSizes}
 
 -- Three numbers, one for each dimension of the grid.
@@ -11,6 +11,9 @@ pub record Sizes : Type 0 where
 abbrev pub sizes_of : List ℕ → Sizes
 sizes_of s = record { x = slice_index s 0; y = slice_index s 1; z = slice_index s 2 }
 
+abbrev pub sizes_list : Sizes → List ℕ
+sizes_list s = s.x ∷ s.y ∷ s.z ∷ []
+
 abbrev pub volume : Sizes → ℕ
 volume s = s.x * s.y * s.z
 
@@ -20,6 +23,12 @@ along d s = if nat_lt d 1 then s.x else (if nat_lt d 2 then s.y else (if nat_lt 
 -- Work-items are numbered along x first, then y, then z. Where the item stands in a grid of these sizes:
 abbrev pub place_in : Sizes → ℕ → Sizes
 place_in s item = record { x = item % s.x; y = (item / s.x) % s.y; z = item / (s.x * s.y) }
+
+-- Groups are numbered in the same way. The number of the group of a work-item, in a grid and groups of these sizes:
+abbrev pub group_of : Sizes → Sizes → ℕ → ℕ
+group_of global local item =
+    let p = place_in global item in
+    p.x / local.x + (global.x / local.x) * (p.y / local.y + (global.y / local.y) * (p.z / local.z))
 
 abbrev pub place_of : LaunchSizes → ℕ → Sizes
 place_of l item = place_in (sizes_of l.global) item

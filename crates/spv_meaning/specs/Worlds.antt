@@ -1,6 +1,6 @@
 -- All invocations of a launch over its buffers, in any order.
-use Rattle.std.specs.Prelude.{ℕ, zero, suc, ◌+◌, ◌*◌, ◌/◌, ◌%◌, true, false, List, [], ◌∷◌, slice_set, Option, None}
-use Rattle.launch_text.specs.WorkItems.{Sizes, volume, place_in}
+use Rattle.std.specs.Prelude.{ℕ, zero, suc, ◌+◌, ◌/◌, ◌%◌, true, false, List, [], ◌∷◌, slice_set, Option, None}
+use Rattle.launch_text.specs.WorkItems.{Sizes, volume, group_of}
 use Rattle.spv_module.specs.declared.module.Inst.{Inst}
 use Rattle.clv_worlds.specs.Worlds.{Shared, Program}
 use Rattle.spv_meaning.specs.Events.{Event, Write, Asked}
@@ -29,12 +29,6 @@ put_in (suc n) offset bytes (b ∷ bs) = b ∷ put_in n offset bytes bs
 -- the buffers after an event
 abbrev pub after_event : Event → Buffers → Buffers
 after_event (Write at value) bs = put_in at.buffer at.offset (low_bytes (at.bits / 8) value) bs
-
--- Groups are numbered along x first, then y, then z.
-abbrev pub group_of : Sizes → Sizes → ℕ → ℕ
-group_of global local item =
-    let p = place_in global item in
-    p.x / local.x + (global.x / local.x) * (p.y / local.y + (global.y / local.y) * (p.z / local.z))
 
 -- The invocations of a grid share the buffers, whose bytes are all set. A write is answered by 0, which nobody reads.
 abbrev pub shared_over : Sizes → Sizes → Shared Asked Buffers

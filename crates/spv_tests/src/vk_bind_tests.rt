@@ -177,7 +177,6 @@ fn arguments_keep_their_rules(rt: HostRuntime) -> Result<(), Fail> {
     let table: [(&str, &[usize], Verdict); 22] = [
         (BOTH, &[8, 4], None),
         ("arg 1 buffer a\narg 0 buffer b", &[12, 24], None),
-        ("arg 0 buffer a\narg 1 buffer a", &[16], None),
         // 11: an argument without a line, or a line past the arguments
         ("", &[], Some((11, Some(0)))),
         ("arg 1 buffer b", &[4], Some((11, Some(0)))),
@@ -213,6 +212,8 @@ fn arguments_keep_their_rules(rt: HostRuntime) -> Result<(), Fail> {
         (BOTH, &[8, 6], Some((14, Some(1)))),
         (BOTH, &[12, 3], Some((14, Some(0)))),
         ("arg 0 buffer a\narg 1 buffer a", &[20], Some((14, Some(0)))),
+        // 15: one buffer, and other elements
+        ("arg 0 buffer a\narg 1 buffer a", &[16], Some((15, Some(0)))),
         // two rules: the least
         ("arg 0 local 8", &[], Some((11, Some(1)))),
         ("arg 0 buffer a\narg 1 local 4", &[3], Some((12, Some(1)))),

@@ -1,25 +1,26 @@
 -- Which rules a launch breaks, one rule after another.
-use Rattle.std.proofs.Common.{◌≡◌, ◌⊎◌, inl, inr, ℕ, ◌+◌, ◌%◌, ◌<◌, ◌≤◌, Bool, true, false, cond, ◌||◌, eqb, ltb, leb, List, [], ◌∷◌, ◌++◌, length, Option, Some, None, refl, sym, ap, ◌∙◌, subst, arith, slice_get, get_or, Contains, take}
-use Rattle.std.specs.Bool.{MatchBool}
+use Rattle.std.proofs.Common.{◌≡◌, ◌⊎◌, inl, inr, ℕ, suc, ◌+◌, ◌<◌, ◌≤◌, Bool, true, false, cond, not, ◌&&◌, ◌||◌, eqb, ltb, leb, List, [], ◌∷◌, ◌++◌, length, Option, Some, None, refl, sym, ap, ◌∙◌, subst, arith, slice_get, get_or, Contains, take}
+use Rattle.std.specs.List.{list_all}
 use Rattle.std.specs.Option.{option_map}
 use Rattle.std.proofs.lemmas.List.{length-map, take_more}
-use Rattle.std.proofs.lemmas.Bool.{eqb-true, eqb-false, leb-true, leb-false, ltb-true, ltb-false}
+use Rattle.std.proofs.lemmas.Bool.{eqb-true, eqb-false, leb-true, leb-false, le-leb, ltb-true, ltb-false}
 use Rattle.std.proofs.lemmas.List.Elements.{Contains-push_cases, Contains-append_left, Contains-append_right, Contains-append_cases, Contains-push}
-use Rattle.std.proofs.lemmas.Option.{slice_get_within, slice_get-get_or, slice_get-map, same_Some}
+use Rattle.std.proofs.lemmas.Option.{slice_get-get_or, slice_get-map, slice_get_past, same_Some}
 use Rattle.launch_text.specs.declared.launch.ArgKind.{ArgKind}
 use Rattle.launch_text.specs.declared.launch.ArgKind.TheVariants.{Buffer, Local, Plain}
 use Rattle.launch_text.specs.declared.launch.ArgLine.{ArgLine}
-use Rattle.launch_text.specs.declared.launch.Launch.{Launch}
-use Rattle.launch_text.specs.Readable.{IsReadable}
-use Rattle.launch_text.specs.WorkItems.{volume}
-use Rattle.launch_text.specs.Rules.{LoadedLaunch, Parameter, GlobalPointer, IsBufferSize, IsOfKind, IsOfSize, Divides, IsLaunch, FillsGrid, IsWithinLimits, Gives, KeepsRules, BrokenRule, broken, Breaks, no_kernel, not_given, past_end, other_kind, other_size, unfilled, over_limits, IsNoLater, IsLeastBroken}
+use Rattle.launch_text.specs.Rules.{LoadedLaunch, Parameter, PlainValue, Taken, given_to, is_unmatched, is_of_size, added_by, sum_before, goes_over, fills_grid, is_within_limits, same_sizes, local_sum, breaks_given, breaks_both, breaks_at, breaks_whole, breaks, BrokenRule, broken, Breaks, IsNoLater, IsLeastBroken, KeepsRules}
 use Rattle.vk_bind.specs.declared.parameters.Parameter.{Parameter as Found}
-use Rattle.vk_bind.proofs.Sizes.{stable_size, divides_test}
-use Rattle.vk_bind.specs.Answers.{parameter_from, parameters_from, NoneBreaks, IsFirst, Finds, line_for, AreGiven, IsFirstMissing, FindsMissing, AreWithin, IsLeastPast, FindsPast, Keeping, sooner}
+use Rattle.vk_bind.specs.declared.rules.ArgumentRule.{ArgumentRule}
+use Rattle.vk_bind.specs.declared.rules.ArgumentRule.TheVariants.{Kind, Elements, Restricted}
+use Rattle.vk_bind.specs.Answers.{parameter_from, parameters_from, taken_from, number_by, alone_both, alone_at, NoneBreaks, IsFirst, Finds, FindsWhole, NoneWhole, IsFirstWhole, AreGiven, IsFirstMissing, FindsMissing, AreWithin, IsLeastPast, FindsPast, sooner, SumAfter, IsSum, sum_within}
 
--- no argument before this one breaks the rule
-pub record NoneBefore (l : LoadedLaunch) (ps : List Parameter) (number n : ℕ) : Type 0 where
-  pub before : (m : ℕ) → m < n → Breaks l (Some ps) (broken number (Some m)) → ⊥
+true_false : {A : Type 0} (b : Bool) → b ≡ true → b ≡ false → A
+true_false b d e = absurd (let never : true ≡ false = sym d ∙ e in cc)
+
+not_true : (b : Bool) → (b ≡ true → ⊥) → b ≡ false
+not_true true h = absurd (h refl)
+not_true false h = refl
 
 lt_or_eq_by : (m n : ℕ) (b : Bool) → ltb m n ≡ b → m ≤ n → (m < n) ⊎ (m ≡ n)
 lt_or_eq_by m n true e h = inl (ltb-true m n e)
@@ -28,77 +29,10 @@ lt_or_eq_by m n false e h = inr (let k = ltb-false m n e in omega (arith, h, k))
 lt_or_eq : (m n : ℕ) → m ≤ n → (m < n) ⊎ (m ≡ n)
 lt_or_eq m n h = lt_or_eq_by m n (ltb m n) refl h
 
--- ---- what it is to break one rule
-
-pub record Missing (l : LoadedLaunch) (ps : List Parameter) (n : ℕ) : Type 0 where
-  pub within : n < length ps
-  pub none : (kind : ArgKind) → Gives l n kind → ⊥
-
-pub record Past (l : LoadedLaunch) (ps : List Parameter) (n : ℕ) : Type 0 where
-  pub kind : ArgKind
-  pub line : Gives l n kind
-  pub past : length ps ≤ n
-
-pub record OtherKind (l : LoadedLaunch) (ps : List Parameter) (n : ℕ) : Type 0 where
-  pub parameter : Parameter
-  pub kind : ArgKind
-  pub at : slice_get ps n ≡ Some parameter
-  pub line : Gives l n kind
-  pub other : IsOfKind parameter kind → ⊥
-
-pub record OtherSize (l : LoadedLaunch) (ps : List Parameter) (n : ℕ) : Type 0 where
-  pub parameter : Parameter
-  pub kind : ArgKind
-  pub at : slice_get ps n ≡ Some parameter
-  pub line : Gives l n kind
-  pub other : IsOfSize l.buffers parameter kind → ⊥
-
-number_same : (a b : ℕ) (x y : Option ℕ) → broken a x ≡ broken b y → a ≡ b
-number_same a b x y e = ap (λ (r : BrokenRule). r.number) e
-
-place_same : (a b m n : ℕ) → broken a (Some m) ≡ broken b (Some n) → m ≡ n
-place_same a b m n e = same_Some m n (ap (λ (r : BrokenRule). r.argument) e)
-
-other_number : {A : Type 0} (a b : ℕ) (x y : Option ℕ) → (a ≡ b → ⊥) → broken a x ≡ broken b y → A
-other_number a b x y apart e = absurd (apart (number_same a b x y e))
-
-moved : (P : List Parameter → ℕ → Type 0) (a : ℕ) (ps qs : List Parameter) (m n : ℕ) → broken a (Some m) ≡ broken a (Some n) → Some ps ≡ Some qs → P qs n → P ps m
-moved P a ps qs m n e d h = subst (λ k. P ps k) (sym (place_same a a m n e)) (subst (λ rs. P rs n) (sym (same_Some ps qs d)) h)
-
-pub unmatched : (l : LoadedLaunch) (ps : List Parameter) (m : ℕ) → Breaks l (Some ps) (broken 11 (Some m)) → Missing l ps m ⊎ Past l ps m
-unmatched l ps m (no_kernel e d) = other_number 11 10 (Some m) None (λ h. omega (arith, h)) e
-unmatched l ps m (not_given qs n e d within none) = inl (moved (Missing l) 11 ps qs m n e d (record { within = within; none = none }))
-unmatched l ps m (past_end qs n kind e d line past) = inr (moved (Past l) 11 ps qs m n e d (record { kind = kind; line = line; past = past }))
-unmatched l ps m (other_kind qs n p kind e d at line other) = other_number 11 12 (Some m) (Some n) (λ h. omega (arith, h)) e
-unmatched l ps m (other_size qs n p kind e d at line other) = other_number 11 14 (Some m) (Some n) (λ h. omega (arith, h)) e
-unmatched l ps m (unfilled qs e d other) = other_number 11 18 (Some m) None (λ h. omega (arith, h)) e
-unmatched l ps m (over_limits qs e d other) = other_number 11 19 (Some m) None (λ h. omega (arith, h)) e
-
-pub kind_broken : (l : LoadedLaunch) (ps : List Parameter) (m : ℕ) → Breaks l (Some ps) (broken 12 (Some m)) → OtherKind l ps m
-kind_broken l ps m (no_kernel e d) = other_number 12 10 (Some m) None (λ h. omega (arith, h)) e
-kind_broken l ps m (not_given qs n e d within none) = other_number 12 11 (Some m) (Some n) (λ h. omega (arith, h)) e
-kind_broken l ps m (past_end qs n kind e d line past) = other_number 12 11 (Some m) (Some n) (λ h. omega (arith, h)) e
-kind_broken l ps m (other_kind qs n p kind e d at line other) = moved (OtherKind l) 12 ps qs m n e d (record { parameter = p; kind = kind; at = at; line = line; other = other })
-kind_broken l ps m (other_size qs n p kind e d at line other) = other_number 12 14 (Some m) (Some n) (λ h. omega (arith, h)) e
-kind_broken l ps m (unfilled qs e d other) = other_number 12 18 (Some m) None (λ h. omega (arith, h)) e
-kind_broken l ps m (over_limits qs e d other) = other_number 12 19 (Some m) None (λ h. omega (arith, h)) e
-
-pub size_broken : (l : LoadedLaunch) (ps : List Parameter) (m : ℕ) → Breaks l (Some ps) (broken 14 (Some m)) → OtherSize l ps m
-size_broken l ps m (no_kernel e d) = other_number 14 10 (Some m) None (λ h. omega (arith, h)) e
-size_broken l ps m (not_given qs n e d within none) = other_number 14 11 (Some m) (Some n) (λ h. omega (arith, h)) e
-size_broken l ps m (past_end qs n kind e d line past) = other_number 14 11 (Some m) (Some n) (λ h. omega (arith, h)) e
-size_broken l ps m (other_kind qs n p kind e d at line other) = other_number 14 12 (Some m) (Some n) (λ h. omega (arith, h)) e
-size_broken l ps m (other_size qs n p kind e d at line other) = moved (OtherSize l) 14 ps qs m n e d (record { parameter = p; kind = kind; at = at; line = line; other = other })
-size_broken l ps m (unfilled qs e d other) = other_number 14 18 (Some m) None (λ h. omega (arith, h)) e
-size_broken l ps m (over_limits qs e d other) = other_number 14 19 (Some m) None (λ h. omega (arith, h)) e
-
 -- ---- lines
 
-abbrev pub AreOnce : List ArgLine → Type 0
-AreOnce all = (m n : ℕ) (a b : ArgLine) → slice_get all m ≡ Some a → slice_get all n ≡ Some b → a.ordinal ≡ b.ordinal → m ≡ n
-
-pub given_more : (args : List ArgLine) (n : ℕ) → AreGiven n args → ((kind : ArgKind) × (line_for n args ≡ Some kind)) → AreGiven (n + 1) args
-given_more args n h k = record { given = λ m low. elim (lt_or_eq m n (omega (arith, low))) [ inl p ↦ h.given m p | inr p ↦ subst (λ i. (kind : ArgKind) × (line_for i args ≡ Some kind)) (sym p) k ] }
+pub given_more : (args : List ArgLine) (n : ℕ) → AreGiven n args → ((kind : ArgKind) × (given_to n args ≡ Some kind)) → AreGiven (n + 1) args
+given_more args n h k = record { given = λ m low. elim (lt_or_eq m n (omega (arith, low))) [ inl p ↦ h.given m p | inr p ↦ subst (λ i. (kind : ArgKind) × (given_to i args ≡ Some kind)) (sym p) k ] }
 
 first_among : (a b : ArgLine) (as_ : List ArgLine) → Contains (a ∷ []) b ⊎ Contains as_ b → (a ≡ b) ⊎ Contains as_ b
 first_among a b as_ (inl p) = elim (Contains-push_cases [] a b p) [ inl q ↦ absurd (let h = q.1 in omega (arith, h)) | inr q ↦ inl q ]
@@ -113,73 +47,79 @@ here a as_ = (0, omega arith, refl)
 there : (a b : ArgLine) (as_ : List ArgLine) → Contains as_ b → Contains (a ∷ as_) b
 there a b as_ c = Contains-append_right (a ∷ []) as_ b c
 
-line_by : (a : ArgLine) (as_ : List ArgLine) (n : ℕ) (kind : ArgKind) (b : Bool) → eqb a.ordinal n ≡ b → (line_for n as_ ≡ Some kind → Contains as_ (record { ordinal = n; kind = kind })) → cond b (Some a.kind) (line_for n as_) ≡ Some kind → Contains (a ∷ as_) (record { ordinal = n; kind = kind })
+line_by : (a : ArgLine) (as_ : List ArgLine) (n : ℕ) (kind : ArgKind) (b : Bool) → eqb a.ordinal n ≡ b → (given_to n as_ ≡ Some kind → Contains as_ (record { ordinal = n; kind = kind })) → cond b (Some a.kind) (given_to n as_) ≡ Some kind → Contains (a ∷ as_) (record { ordinal = n; kind = kind })
 line_by a as_ n kind true test rest h =
     let number = eqb-true a.ordinal n test in
     let same : a.kind ≡ kind = same_Some a.kind kind h in
     subst (λ m. Contains (a ∷ as_) (record { ordinal = m; kind = kind })) number (subst (λ k. Contains (a ∷ as_) (record { ordinal = a.ordinal; kind = k })) same (here a as_))
 line_by a as_ n kind false test rest h = there a _ as_ (rest h)
 
-pub line_gives : (args : List ArgLine) (n : ℕ) (kind : ArgKind) → line_for n args ≡ Some kind → Contains args (record { ordinal = n; kind = kind })
+pub line_gives : (args : List ArgLine) (n : ℕ) (kind : ArgKind) → given_to n args ≡ Some kind → Contains args (record { ordinal = n; kind = kind })
 line_gives [] n kind h = absurd (let never : ⊥ = cc in never)
 line_gives (a ∷ as_) n kind h = line_by a as_ n kind (eqb a.ordinal n) refl (line_gives as_ n kind) h
 
-none_by : (a : ArgLine) (as_ : List ArgLine) (n : ℕ) (kind : ArgKind) (b : Bool) → eqb a.ordinal n ≡ b → (line_for n as_ ≡ None → Contains as_ (record { ordinal = n; kind = kind }) → ⊥) → cond b (Some a.kind) (line_for n as_) ≡ None → Contains (a ∷ as_) (record { ordinal = n; kind = kind }) → ⊥
+none_by : (a : ArgLine) (as_ : List ArgLine) (n : ℕ) (kind : ArgKind) (b : Bool) → eqb a.ordinal n ≡ b → (given_to n as_ ≡ None → Contains as_ (record { ordinal = n; kind = kind }) → ⊥) → cond b (Some a.kind) (given_to n as_) ≡ None → Contains (a ∷ as_) (record { ordinal = n; kind = kind }) → ⊥
 none_by a as_ n kind true test rest h c = cc
 none_by a as_ n kind false test rest h c = elim (first_or a (record { ordinal = n; kind = kind }) as_ c) [
   | inl p ↦ eqb-false a.ordinal n test (ap (λ (b : ArgLine). b.ordinal) p)
   | inr p ↦ rest h p
 ]
 
-pub line_missing : (args : List ArgLine) (n : ℕ) → line_for n args ≡ None → (kind : ArgKind) → Contains args (record { ordinal = n; kind = kind }) → ⊥
+pub line_missing : (args : List ArgLine) (n : ℕ) → given_to n args ≡ None → (kind : ArgKind) → Contains args (record { ordinal = n; kind = kind }) → ⊥
 line_missing [] n h kind c = let w = c.1 in omega (arith, w)
 line_missing (a ∷ as_) n h kind c = none_by a as_ n kind (eqb a.ordinal n) refl (λ e. line_missing as_ n e kind) h c
 
--- an argument has one line
-kind_at : (l : LoadedLaunch) (n : ℕ) (j k : ArgKind) → AreOnce l.arguments → Gives l n j → Gives l n k → j ≡ k
-kind_at l n j k h c d =
-    let a : slice_get l.arguments c.0 ≡ Some (record { ordinal = n; kind = j }) = slice_get-get_or l.arguments c.0 (record { ordinal = n; kind = j }) c.1 ∙ ap Some c.2 in
-    let b : slice_get l.arguments d.0 ≡ Some (record { ordinal = n; kind = k }) = slice_get-get_or l.arguments d.0 (record { ordinal = n; kind = k }) d.1 ∙ ap Some d.2 in
-    let place = h c.0 d.0 _ _ a b refl in
-    ap (λ (a : ArgLine). a.kind) (same_Some (record { ordinal = n; kind = j }) (record { ordinal = n; kind = k }) (sym a ∙ ap (slice_get l.arguments) place ∙ b))
-
 -- ---- rule 11
 
-pub missing_breaks : (l : LoadedLaunch) (ps : List Parameter) (n : ℕ) → IsFirstMissing (length ps) l.arguments n → IsFirst l ps 11 n
-missing_breaks l ps n h = record {
-  breaks = not_given ps n refl refl h.within (λ kind g. line_missing l.arguments n h.missing kind g);
-  before = λ m low b. elim (unmatched l ps m b) [
-    | inl p ↦ (let g = h.before.given m low in p.none g.0 (line_gives l.arguments m g.0 g.1))
-    | inr p ↦ (let w = h.within in let past = p.past in omega (arith, w, past, low))
-  ];
+-- what a line gives is given, though an earlier line may give something else
+pub given_by : (args : List ArgLine) (n : ℕ) (kind : ArgKind) (o : Option ArgKind) → given_to n args ≡ o → Contains args (record { ordinal = n; kind = kind }) → (other : ArgKind) × (given_to n args ≡ Some other)
+given_by args n kind None e c = absurd (line_missing args n e kind c)
+given_by args n kind (Some other) e c = (other, e)
+
+missing_is : (ps : List Parameter) (args : List ArgLine) (n : ℕ) → n < length ps → given_to n args ≡ None → is_unmatched (slice_get ps n) (given_to n args) ≡ true
+missing_is ps args n w e = ap (λ p. is_unmatched p (given_to n args)) (slice_get-get_or ps n (PlainValue 0) w) ∙ ap (is_unmatched (Some (get_or ps n (PlainValue 0)))) e
+
+matched_is : (ps : List Parameter) (args : List ArgLine) (n : ℕ) (kind : ArgKind) → n < length ps → given_to n args ≡ Some kind → is_unmatched (slice_get ps n) (given_to n args) ≡ false
+matched_is ps args n kind w e = ap (λ p. is_unmatched p (given_to n args)) (slice_get-get_or ps n (PlainValue 0) w) ∙ ap (is_unmatched (Some (get_or ps n (PlainValue 0)))) e
+
+past_is : (ps : List Parameter) (args : List ArgLine) (n : ℕ) (kind : ArgKind) → length ps ≤ n → given_to n args ≡ Some kind → is_unmatched (slice_get ps n) (given_to n args) ≡ true
+past_is ps args n kind w e = ap (λ p. is_unmatched p (given_to n args)) (slice_get_past ps n w) ∙ ap (is_unmatched None) e
+
+absent_is : (ps : List Parameter) (args : List ArgLine) (n : ℕ) → length ps ≤ n → given_to n args ≡ None → is_unmatched (slice_get ps n) (given_to n args) ≡ false
+absent_is ps args n w e = ap (λ p. is_unmatched p (given_to n args)) (slice_get_past ps n w) ∙ ap (is_unmatched None) e
+
+missing_breaks : (l : LoadedLaunch) (t : Taken) (n : ℕ) → IsFirstMissing (length t.parameters) l.arguments n → IsFirst l t 11 n
+missing_breaks l t n h = record {
+  breaks = missing_is t.parameters l.arguments n h.within h.missing;
+  before = λ m low. (let g = h.before.given m low in let w = h.within in matched_is t.parameters l.arguments m g.0 (omega (arith, w, low)) g.1);
 }
 
-pub past_breaks : (l : LoadedLaunch) (ps : List Parameter) (n : ℕ) → AreGiven (length ps) l.arguments → IsLeastPast (length ps) l.arguments n → IsFirst l ps 11 n
-past_breaks l ps n g h = record {
-  breaks = past_end ps n h.kind refl refl h.line h.past;
-  before = λ m low b. elim (unmatched l ps m b) [
-    | inl p ↦ (let k = g.given m p.within in p.none k.0 (line_gives l.arguments m k.0 k.1))
-    | inr p ↦ (let least = h.least _ p.line p.past in omega (arith, least, low))
-  ];
+-- an argument before the least one past the end
+before_past : (l : LoadedLaunch) (t : Taken) (n m : ℕ) (b : Bool) (o : Option ArgKind) → ltb m (length t.parameters) ≡ b → given_to m l.arguments ≡ o → AreGiven (length t.parameters) l.arguments → ((kind : ArgKind) → length t.parameters ≤ m → Contains l.arguments (record { ordinal = m; kind = kind }) → ⊥) → breaks_at l t 11 m ≡ false
+before_past l t n m true o low e g h = (let w = ltb-true m (length t.parameters) low in let k = g.given m w in matched_is t.parameters l.arguments m k.0 w k.1)
+before_past l t n m false None low e g h = absent_is t.parameters l.arguments m (ltb-false m (length t.parameters) low) e
+before_past l t n m false (Some kind) low e g h = absurd (h kind (ltb-false m (length t.parameters) low) (line_gives l.arguments m kind e))
+
+past_breaks : (l : LoadedLaunch) (t : Taken) (n : ℕ) → AreGiven (length t.parameters) l.arguments → IsLeastPast (length t.parameters) l.arguments n → IsFirst l t 11 n
+past_breaks l t n g h = record {
+  breaks = (let k = given_by l.arguments n h.kind (given_to n l.arguments) refl h.line in past_is t.parameters l.arguments n k.0 h.past k.1);
+  before = λ m low. before_past l t n m (ltb m (length t.parameters)) (given_to m l.arguments) refl refl g (λ kind high c. (let least = h.least _ c high in omega (arith, least, low)));
 }
 
-pub none_unmatched : (l : LoadedLaunch) (ps : List Parameter) → AreGiven (length ps) l.arguments → AreWithin (length ps) l.arguments → NoneBreaks l ps 11
-none_unmatched l ps g h = record {
-  none = λ m b. elim (unmatched l ps m b) [
-    | inl p ↦ (let k = g.given m p.within in p.none k.0 (line_gives l.arguments m k.0 k.1))
-    | inr p ↦ (let w = h.within _ p.line in let past = p.past in omega (arith, w, past))
-  ];
+none_unmatched : (l : LoadedLaunch) (t : Taken) → AreGiven (length t.parameters) l.arguments → AreWithin (length t.parameters) l.arguments → NoneBreaks l t 11
+none_unmatched l t g h = record {
+  none = λ m. before_past l t 0 m (ltb m (length t.parameters)) (given_to m l.arguments) refl refl g (λ kind high c. (let w = h.within _ c in omega (arith, w, high)));
 }
 
-pub finds_missing : (l : LoadedLaunch) (ps : List Parameter) (count n : ℕ) (args : List ArgLine) → count ≡ length ps → args ≡ l.arguments → FindsMissing count args (Some n) → Finds l ps 11 (Some n)
-finds_missing l ps count n args e d h = missing_breaks l ps n (subst (λ c. IsFirstMissing c l.arguments n) e (subst (λ as_. IsFirstMissing count as_ n) d h))
+pub finds_missing : (l : LoadedLaunch) (t : Taken) (count n : ℕ) (args : List ArgLine) → count ≡ length t.parameters → args ≡ l.arguments → FindsMissing count args (Some n) → Finds l t 11 (Some n)
+finds_missing l t count n args e d h = missing_breaks l t n (subst (λ c. IsFirstMissing c l.arguments n) e (subst (λ as_. IsFirstMissing count as_ n) d h))
 
-past_or_none : (l : LoadedLaunch) (ps : List Parameter) (o : Option ℕ) → AreGiven (length ps) l.arguments → FindsPast (length ps) l.arguments o → Finds l ps 11 o
-past_or_none l ps None g h = none_unmatched l ps g h
-past_or_none l ps (Some n) g h = past_breaks l ps n g h
+past_or_none : (l : LoadedLaunch) (t : Taken) (o : Option ℕ) → AreGiven (length t.parameters) l.arguments → FindsPast (length t.parameters) l.arguments o → Finds l t 11 o
+past_or_none l t None g h = none_unmatched l t g h
+past_or_none l t (Some n) g h = past_breaks l t n g h
 
-pub finds_past : (l : LoadedLaunch) (ps : List Parameter) (count : ℕ) (o : Option ℕ) (args : List ArgLine) → count ≡ length ps → args ≡ l.arguments → FindsMissing count args None → FindsPast count args o → Finds l ps 11 o
-finds_past l ps count o args e d g h = past_or_none l ps o (subst (λ c. AreGiven c l.arguments) e (subst (λ as_. AreGiven count as_) d g)) (subst (λ c. FindsPast c l.arguments o) e (subst (λ as_. FindsPast count as_ o) d h))
+pub finds_past : (l : LoadedLaunch) (t : Taken) (count : ℕ) (o : Option ℕ) (args : List ArgLine) → count ≡ length t.parameters → args ≡ l.arguments → FindsMissing count args None → FindsPast count args o → Finds l t 11 o
+finds_past l t count o args e d g h = past_or_none l t o (subst (λ c. AreGiven c l.arguments) e (subst (λ as_. AreGiven count as_) d g)) (subst (λ c. FindsPast c l.arguments o) e (subst (λ as_. FindsPast count as_ o) d h))
 
 -- one line later
 
@@ -221,220 +161,335 @@ past_more count seen a (Some n) h = past_next count n seen a (ltb a.ordinal coun
 pub past_step : (count : ℕ) (args : List ArgLine) (i : ℕ) (a : ArgLine) (o new : Option ℕ) → i < length args → a ≡ get_or args i a → FindsPast count (take i args) o → new ≡ sooner o count a.ordinal → FindsPast count (take (i + 1) args) new
 past_step count args i a o new w is h e = subst (λ n. FindsPast count (take (i + 1) args) n) (sym e) (subst (λ as_. FindsPast count as_ (sooner o count a.ordinal)) (sym (take_more args i a w ∙ ap (λ b. take i args ++ b ∷ []) (sym is))) (past_more count (take i args) a o h))
 
--- ---- rules 12 and 14
+-- ---- the least argument that breaks a rule
 
-pub none_yet : (l : LoadedLaunch) (ps : List Parameter) (number : ℕ) → NoneBefore l ps number 0
-none_yet l ps number = record { before = λ m low b. omega (arith, low) }
+-- no argument before this one breaks the rule
+pub record NoneBefore (l : LoadedLaunch) (t : Taken) (rule n : ℕ) : Type 0 where
+  pub before : (m : ℕ) → m < n → breaks_at l t rule m ≡ false
 
-pub none_more : (l : LoadedLaunch) (ps : List Parameter) (number n : ℕ) → NoneBefore l ps number n → (Breaks l (Some ps) (broken number (Some n)) → ⊥) → NoneBefore l ps number (n + 1)
-none_more l ps number n h here = record {
-  before = λ m low b. elim (lt_or_eq m n (omega (arith, low))) [
-    | inl p ↦ h.before m p b
-    | inr p ↦ here (subst (λ k. Breaks l (Some ps) (broken number (Some k))) p b)
+pub none_yet : (l : LoadedLaunch) (t : Taken) (rule : ℕ) → NoneBefore l t rule 0
+none_yet l t rule = record { before = λ m low. absurd (omega (arith, low)) }
+
+pub none_more : (l : LoadedLaunch) (t : Taken) (rule n : ℕ) → NoneBefore l t rule n → breaks_at l t rule n ≡ false → NoneBefore l t rule (n + 1)
+none_more l t rule n h here = record {
+  before = λ m low. elim (lt_or_eq m n (omega (arith, low))) [
+    | inl p ↦ h.before m p
+    | inr p ↦ subst (λ k. breaks_at l t rule k ≡ false) (sym p) here
   ];
 }
 
-pub first_here : (l : LoadedLaunch) (ps : List Parameter) (number n : ℕ) → NoneBefore l ps number n → Breaks l (Some ps) (broken number (Some n)) → IsFirst l ps number n
-first_here l ps number n h b = record { breaks = b; before = h.before }
+pub first_here : (l : LoadedLaunch) (t : Taken) (rule n : ℕ) → NoneBefore l t rule n → breaks_at l t rule n ≡ true → IsFirst l t rule n
+first_here l t rule n h b = record { breaks = b; before = h.before }
 
--- the nth argument, of this parameter and with this line
-pub kind_kept : (l : LoadedLaunch) (ps : List Parameter) (n : ℕ) (p : Parameter) (kind : ArgKind) → AreOnce l.arguments → slice_get ps n ≡ Some p → line_for n l.arguments ≡ Some kind → IsOfKind p kind → Breaks l (Some ps) (broken 12 (Some n)) → ⊥
-kind_kept l ps n p kind h at line is b =
-    let o = kind_broken l ps n b in
-    let same_parameter = same_Some p o.parameter (sym at ∙ o.at) in
-    let same_kind = kind_at l n kind o.kind h (line_gives l.arguments n kind line) o.line in
-    o.other (subst (λ q. IsOfKind q o.kind) same_parameter (subst (λ k. IsOfKind p k) same_kind is))
+both_none : (l : LoadedLaunch) (t : Taken) (rule n : ℕ) (g : Option ArgKind) → breaks_both l t rule n None g ≡ false
+both_none l t rule n None = refl
+both_none l t rule n (Some given) = refl
 
-pub kind_breaks : (l : LoadedLaunch) (ps : List Parameter) (n : ℕ) (p : Parameter) (kind : ArgKind) → slice_get ps n ≡ Some p → line_for n l.arguments ≡ Some kind → (IsOfKind p kind → ⊥) → Breaks l (Some ps) (broken 12 (Some n))
-kind_breaks l ps n p kind at line other = other_kind ps n p kind refl refl at (line_gives l.arguments n kind line) other
+both_unsaid : (l : LoadedLaunch) (t : Taken) (rule n : ℕ) (p : Option Parameter) → breaks_both l t rule n p None ≡ false
+both_unsaid l t rule n None = refl
+both_unsaid l t rule n (Some p) = refl
 
-pub size_kept : (l : LoadedLaunch) (ps : List Parameter) (n : ℕ) (p : Parameter) (kind : ArgKind) → AreOnce l.arguments → slice_get ps n ≡ Some p → line_for n l.arguments ≡ Some kind → IsOfSize l.buffers p kind → Breaks l (Some ps) (broken 14 (Some n)) → ⊥
-size_kept l ps n p kind h at line is b =
-    let o = size_broken l ps n b in
-    let same_parameter = same_Some p o.parameter (sym at ∙ o.at) in
-    let same_kind = kind_at l n kind o.kind h (line_gives l.arguments n kind line) o.line in
-    o.other (subst (λ q. IsOfSize l.buffers q o.kind) same_parameter (subst (λ k. IsOfSize l.buffers p k) same_kind is))
+alone_none : (ps : List Parameter) (lines : List ArgLine) (rule : ArgumentRule) (n : ℕ) (g : Option ArgKind) → alone_both ps lines rule n None g ≡ false
+alone_none ps lines rule n None = refl
+alone_none ps lines rule n (Some given) = refl
 
-pub size_breaks : (l : LoadedLaunch) (ps : List Parameter) (n : ℕ) (p : Parameter) (kind : ArgKind) → slice_get ps n ≡ Some p → line_for n l.arguments ≡ Some kind → (IsOfSize l.buffers p kind → ⊥) → Breaks l (Some ps) (broken 14 (Some n))
-size_breaks l ps n p kind at line other = other_size ps n p kind refl refl at (line_gives l.arguments n kind line) other
+-- rules but 11 look at both
+abbrev LooksAtBoth : ℕ → Type 0
+LooksAtBoth rule = (l : LoadedLaunch) (t : Taken) (n : ℕ) → breaks_at l t rule n ≡ breaks_both l t rule n (slice_get t.parameters n) (given_to n l.arguments)
 
--- an argument without a line breaks neither
-pub kind_unsaid : (l : LoadedLaunch) (ps : List Parameter) (n : ℕ) → line_for n l.arguments ≡ None → Breaks l (Some ps) (broken 12 (Some n)) → ⊥
-kind_unsaid l ps n none b = let o = kind_broken l ps n b in line_missing l.arguments n none o.kind o.line
+looks_14 : LooksAtBoth 14
+looks_14 l t n = refl
 
-pub size_unsaid : (l : LoadedLaunch) (ps : List Parameter) (n : ℕ) → line_for n l.arguments ≡ None → Breaks l (Some ps) (broken 14 (Some n)) → ⊥
-size_unsaid l ps n none b = let o = size_broken l ps n b in line_missing l.arguments n none o.kind o.line
+looks_by : (rule : ArgumentRule) → LooksAtBoth (number_by rule)
+looks_by Kind l t n = refl
+looks_by Elements l t n = refl
+looks_by Restricted l t n = refl
+
+past_kept : (l : LoadedLaunch) (t : Taken) (rule n : ℕ) → LooksAtBoth rule → length t.parameters ≤ n → breaks_at l t rule n ≡ false
+past_kept l t rule n looks high = looks l t n ∙ ap (λ p. breaks_both l t rule n p (given_to n l.arguments)) (slice_get_past t.parameters n high) ∙ both_none l t rule n (given_to n l.arguments)
+
+none_by_end : (l : LoadedLaunch) (t : Taken) (rule n m : ℕ) (b : Bool) → ltb m n ≡ b → LooksAtBoth rule → NoneBefore l t rule n → length t.parameters ≤ n → breaks_at l t rule m ≡ false
+none_by_end l t rule n m true e looks h past = h.before m (ltb-true m n e)
+none_by_end l t rule n m false e looks h past = past_kept l t rule m looks (let high = ltb-false m n e in omega (arith, high, past))
 
 -- none is past the parameters
-pub kinds_all : (l : LoadedLaunch) (ps : List Parameter) (n : ℕ) → NoneBefore l ps 12 n → length ps ≤ n → NoneBreaks l ps 12
-kinds_all l ps n h past = record { none = λ m b. (let o = kind_broken l ps m b in let w = slice_get_within ps m o.parameter o.at in h.before m (omega (arith, w, past)) b) }
+none_at_end : (l : LoadedLaunch) (found : List Found) (required : Option (List ℕ)) (rule n : ℕ) → LooksAtBoth rule → NoneBefore l (taken_from found required) rule n → length found ≤ n → NoneBreaks l (taken_from found required) rule
+none_at_end l found required rule n looks h past = record { none = λ m. none_by_end l (taken_from found required) rule n m (ltb m n) refl looks h (let same = length-map found parameter_from in omega (arith, same, past)) }
 
-pub sizes_all : (l : LoadedLaunch) (ps : List Parameter) (n : ℕ) → NoneBefore l ps 14 n → length ps ≤ n → NoneBreaks l ps 14
-sizes_all l ps n h past = record { none = λ m b. (let o = size_broken l ps m b in let w = slice_get_within ps m o.parameter o.at in h.before m (omega (arith, w, past)) b) }
+pub alone_end : (l : LoadedLaunch) (found : List Found) (required : Option (List ℕ)) (rule : ArgumentRule) (n : ℕ) → NoneBefore l (taken_from found required) (number_by rule) n → length found ≤ n → NoneBreaks l (taken_from found required) (number_by rule)
+alone_end l found required rule n h past = none_at_end l found required (number_by rule) n (looks_by rule) h past
+
+-- what the code looks for is the rule of this number
+alone_is : (l : LoadedLaunch) (t : Taken) (rule : ArgumentRule) (n : ℕ) (p : Option Parameter) (g : Option ArgKind) → breaks_both l t (number_by rule) n p g ≡ alone_both t.parameters l.arguments rule n p g
+alone_is l t rule n None g = both_none l t (number_by rule) n g ∙ sym (alone_none t.parameters l.arguments rule n g)
+alone_is l t rule n (Some p) None = refl
+alone_is l t Kind n (Some p) (Some g) = refl
+alone_is l t Elements n (Some p) (Some g) = refl
+alone_is l t Restricted n (Some p) (Some g) = refl
+
+pub alone_found : (l : LoadedLaunch) (t : Taken) (rule : ArgumentRule) (n : ℕ) (r : Bool) → r ≡ alone_at t.parameters l.arguments rule n → breaks_at l t (number_by rule) n ≡ r
+alone_found l t rule n r e = looks_by rule l t n ∙ alone_is l t rule n (slice_get t.parameters n) (given_to n l.arguments) ∙ sym e
+
+pub alone_said : (l : LoadedLaunch) (t : Taken) (rule : ArgumentRule) (n : ℕ) (r : Bool) (args : List ArgLine) → args ≡ l.arguments → r ≡ alone_at t.parameters args rule n → breaks_at l t (number_by rule) n ≡ r
+alone_said l t rule n r args same e = alone_found l t rule n r (e ∙ ap (λ as_. alone_at t.parameters as_ rule n) same)
+
+-- nothing was found
+pub none_found : (l : LoadedLaunch) (t : Taken) (rule : ℕ) (o : Option ℕ) → ((x : ℕ) → o ≡ Some x → ⊥) → Finds l t rule o → NoneBreaks l t rule
+none_found l t rule None h f = f
+none_found l t rule (Some x) h f = absurd (h x refl)
+
+-- ---- rules 13 and 17, which pointers into buffers can't break
+
+plain_kept : (l : LoadedLaunch) (t : Taken) (n : ℕ) (o : Option Found) (g : Option ArgKind) → breaks_both l t 13 n (option_map parameter_from o) g ≡ false
+plain_kept l t n None g = both_none l t 13 n g
+plain_kept l t n (Some p) None = refl
+plain_kept l t n (Some p) (Some (Buffer file)) = refl
+plain_kept l t n (Some p) (Some (Local bytes)) = refl
+plain_kept l t n (Some p) (Some (Plain bytes)) = refl
+
+local_kept : (l : LoadedLaunch) (t : Taken) (n : ℕ) (o : Option Found) (g : Option ArgKind) → breaks_both l t 17 n (option_map parameter_from o) g ≡ false
+local_kept l t n None g = both_none l t 17 n g
+local_kept l t n (Some p) None = refl
+local_kept l t n (Some p) (Some (Buffer file)) = refl
+local_kept l t n (Some p) (Some (Local bytes)) = refl
+local_kept l t n (Some p) (Some (Plain bytes)) = refl
+
+none_13 : (l : LoadedLaunch) (found : List Found) (required : Option (List ℕ)) → NoneBreaks l (taken_from found required) 13
+none_13 l found required = record { none = λ n. ap (λ p. breaks_both l (taken_from found required) 13 n p (given_to n l.arguments)) (slice_get-map parameter_from found n) ∙ plain_kept l (taken_from found required) n (slice_get found n) (given_to n l.arguments) }
+
+none_17 : (l : LoadedLaunch) (found : List Found) (required : Option (List ℕ)) → NoneBreaks l (taken_from found required) 17
+none_17 l found required = record { none = λ n. ap (λ p. breaks_both l (taken_from found required) 17 n p (given_to n l.arguments)) (slice_get-map parameter_from found n) ∙ local_kept l (taken_from found required) n (slice_get found n) (given_to n l.arguments) }
+
+-- ---- rules of other numbers
+
+abbrev OutOf : ℕ → ℕ → ℕ → Type 0
+OutOf low high rule = (rule < low) ⊎ (high < rule)
+
+apart_by : (low high rule k : ℕ) (b : Bool) → eqb rule k ≡ b → OutOf low high rule → low ≤ k → k ≤ high → eqb rule k ≡ false
+apart_by low high rule k false e out above below = e
+apart_by low high rule k true e (inl less) above below = absurd (let same = eqb-true rule k e in omega (arith, same, less, above))
+apart_by low high rule k true e (inr more) above below = absurd (let same = eqb-true rule k e in omega (arith, same, more, below))
+
+apart : (low high rule k : ℕ) → OutOf low high rule → low ≤ k → k ≤ high → eqb rule k ≡ false
+apart low high rule k out above below = apart_by low high rule k (eqb rule k) refl out above below
+
+skip : (b x y : Bool) → b ≡ false → cond b x y ≡ y
+skip true x y e = absurd (let never : true ≡ false = e in cc)
+skip false x y e = refl
+
+given_outside : (l : LoadedLaunch) (t : Taken) (rule n : ℕ) (p : Parameter) (g : ArgKind) → OutOf 11 17 rule → breaks_given l t rule n p g ≡ false
+given_outside l t rule n p g out =
+    skip (eqb rule 12) _ _ (apart 11 17 rule 12 out (omega arith) (omega arith))
+    ∙ skip (eqb rule 13) _ _ (apart 11 17 rule 13 out (omega arith) (omega arith))
+    ∙ skip (eqb rule 14) _ _ (apart 11 17 rule 14 out (omega arith) (omega arith))
+    ∙ skip (eqb rule 15) _ _ (apart 11 17 rule 15 out (omega arith) (omega arith))
+    ∙ skip (eqb rule 16) _ _ (apart 11 17 rule 16 out (omega arith) (omega arith))
+    ∙ skip (eqb rule 17) _ _ (apart 11 17 rule 17 out (omega arith) (omega arith))
+
+both_outside : (l : LoadedLaunch) (t : Taken) (rule n : ℕ) (p : Option Parameter) (g : Option ArgKind) → OutOf 11 17 rule → breaks_both l t rule n p g ≡ false
+both_outside l t rule n None g out = both_none l t rule n g
+both_outside l t rule n (Some p) None out = refl
+both_outside l t rule n (Some p) (Some g) out = given_outside l t rule n p g out
+
+at_outside : (l : LoadedLaunch) (t : Taken) (rule n : ℕ) → OutOf 11 17 rule → breaks_at l t rule n ≡ false
+at_outside l t rule n out = skip (eqb rule 11) _ _ (apart 11 17 rule 11 out (omega arith) (omega arith)) ∙ both_outside l t rule n (slice_get t.parameters n) (given_to n l.arguments) out
+
+whole_outside : (l : LoadedLaunch) (t : Taken) (rule : ℕ) → OutOf 18 21 rule → breaks_whole l t rule ≡ false
+whole_outside l t rule out =
+    skip (eqb rule 18) _ _ (apart 18 21 rule 18 out (omega arith) (omega arith))
+    ∙ skip (eqb rule 19) _ _ (apart 18 21 rule 19 out (omega arith) (omega arith))
+    ∙ skip (eqb rule 20) _ _ (apart 18 21 rule 20 out (omega arith) (omega arith))
+    ∙ skip (eqb rule 21) _ _ (apart 18 21 rule 21 out (omega arith) (omega arith))
 
 -- ---- one rule after another
 
 -- no rule below this number is broken
-pub record Passed (l : LoadedLaunch) (ps : List Parameter) (number : ℕ) : Type 0 where
-  pub none : (s : BrokenRule) → Breaks l (Some ps) s → s.number < number → ⊥
+pub record Passed (l : LoadedLaunch) (t : Taken) (rule : ℕ) : Type 0 where
+  pub none : (s : BrokenRule) → Breaks l (Some t) s → rule ≤ s.number
 
-numbered : (s : BrokenRule) (a : ℕ) (x : Option ℕ) → s ≡ broken a x → s.number ≡ a
-numbered s a x e = ap (λ (r : BrokenRule). r.number) e
-
-placed : (s : BrokenRule) (a m : ℕ) (l : LoadedLaunch) (ps : List Parameter) → s ≡ broken a (Some m) → Breaks l (Some ps) s → Breaks l (Some ps) (broken a (Some m))
-placed s a m l ps e b = subst (λ r. Breaks l (Some ps) r) e b
-
-apart : {A : Type 0} (s : BrokenRule) (a number : ℕ) (x : Option ℕ) → s ≡ broken a x → s.number < number → number ≤ a → A
-apart s a number x e low high = let k = numbered s a x e in absurd (omega (arith, k, low, high))
-
--- what is broken below one number, rule by rule
-passed_by : (l : LoadedLaunch) (ps : List Parameter) (number : ℕ) → number ≤ 20 → ((m : ℕ) → 11 < number → Breaks l (Some ps) (broken 11 (Some m)) → ⊥) → ((m : ℕ) → 12 < number → Breaks l (Some ps) (broken 12 (Some m)) → ⊥) → ((m : ℕ) → 14 < number → Breaks l (Some ps) (broken 14 (Some m)) → ⊥) → (18 < number → FillsGrid l) → (19 < number → IsWithinLimits l) → (s : BrokenRule) → Breaks l (Some ps) s → s.number < number → ⊥
-passed_by l ps number high a b c d f s (no_kernel e t) low = (let never : ⊥ = cc in never)
-passed_by l ps number high a b c d f s (not_given qs n e t within none) low = (let k = numbered s 11 (Some n) e in a n (omega (arith, k, low)) (placed s 11 n l ps e (not_given qs n e t within none)))
-passed_by l ps number high a b c d f s (past_end qs n kind e t line past) low = (let k = numbered s 11 (Some n) e in a n (omega (arith, k, low)) (placed s 11 n l ps e (past_end qs n kind e t line past)))
-passed_by l ps number high a b c d f s (other_kind qs n p kind e t at line other) low = (let k = numbered s 12 (Some n) e in b n (omega (arith, k, low)) (placed s 12 n l ps e (other_kind qs n p kind e t at line other)))
-passed_by l ps number high a b c d f s (other_size qs n p kind e t at line other) low = (let k = numbered s 14 (Some n) e in c n (omega (arith, k, low)) (placed s 14 n l ps e (other_size qs n p kind e t at line other)))
-passed_by l ps number high a b c d f s (unfilled qs e t other) low = (let k = numbered s 18 None e in other (d (omega (arith, k, low))))
-passed_by l ps number high a b c d f s (over_limits qs e t other) low = (let k = numbered s 19 None e in other (f (omega (arith, k, low))))
-
-pub passed_11 : (l : LoadedLaunch) (ps : List Parameter) → Passed l ps 11
-passed_11 l ps = record { none = passed_by l ps 11 (omega arith) (λ m w. absurd (omega (arith, w))) (λ m w. absurd (omega (arith, w))) (λ m w. absurd (omega (arith, w))) (λ w. absurd (omega (arith, w))) (λ w. absurd (omega (arith, w))) }
-
-pub passed_12 : (l : LoadedLaunch) (ps : List Parameter) → NoneBreaks l ps 11 → Passed l ps 12
-passed_12 l ps a = record { none = passed_by l ps 12 (omega arith) (λ m w. a.none m) (λ m w. absurd (omega (arith, w))) (λ m w. absurd (omega (arith, w))) (λ w. absurd (omega (arith, w))) (λ w. absurd (omega (arith, w))) }
-
-pub passed_14 : (l : LoadedLaunch) (ps : List Parameter) → NoneBreaks l ps 11 → NoneBreaks l ps 12 → Passed l ps 14
-passed_14 l ps a b = record { none = passed_by l ps 14 (omega arith) (λ m w. a.none m) (λ m w. b.none m) (λ m w. absurd (omega (arith, w))) (λ w. absurd (omega (arith, w))) (λ w. absurd (omega (arith, w))) }
-
-pub passed_18 : (l : LoadedLaunch) (ps : List Parameter) → NoneBreaks l ps 11 → NoneBreaks l ps 12 → NoneBreaks l ps 14 → Passed l ps 18
-passed_18 l ps a b c = record { none = passed_by l ps 18 (omega arith) (λ m w. a.none m) (λ m w. b.none m) (λ m w. c.none m) (λ w. absurd (omega (arith, w))) (λ w. absurd (omega (arith, w))) }
-
-pub passed_19 : (l : LoadedLaunch) (ps : List Parameter) → NoneBreaks l ps 11 → NoneBreaks l ps 12 → NoneBreaks l ps 14 → FillsGrid l → Passed l ps 19
-passed_19 l ps a b c d = record { none = passed_by l ps 19 (omega arith) (λ m w. a.none m) (λ m w. b.none m) (λ m w. c.none m) (λ w. d) (λ w. absurd (omega (arith, w))) }
+low_kept : (l : LoadedLaunch) (t : Taken) (rule : ℕ) (x : Option ℕ) → rule < 11 → breaks l (Some t) rule x ≡ false
+low_kept l t rule None low = whole_outside l t rule (inl (omega (arith, low)))
+low_kept l t rule (Some n) low = at_outside l t rule n (inl low)
 
 not_below : (m n : ℕ) → (m < n → ⊥) → n ≤ m
 not_below m n h = omega arith
 
-no_later : (l : LoadedLaunch) (ps : List Parameter) (number n : ℕ) (s : BrokenRule) (x : Option ℕ) → IsFirst l ps number n → Breaks l (Some ps) (broken s.number x) → s.number ≡ number → IsNoLater (Some n) x
-no_later l ps number n s None h b e = tt
-no_later l ps number n s (Some m) h b e = not_below m n (λ low. h.before m low (subst (λ k. Breaks l (Some ps) (broken k (Some m))) e b))
+pub passed_11 : (l : LoadedLaunch) (t : Taken) → Passed l t 11
+passed_11 l t = record { none = λ s b. not_below s.number 11 (λ low. true_false (breaks l (Some t) s.number s.argument) b (low_kept l t s.number s.argument low)) }
 
-pub least_at : (l : LoadedLaunch) (ps : List Parameter) (number n : ℕ) → Passed l ps number → IsFirst l ps number n → IsLeastBroken l (Some ps) (broken number (Some n))
-least_at l ps number n p h = record {
-  breaks = h.breaks;
-  least = λ s b. not_below s.number number (p.none s b);
-  first = λ s b e. no_later l ps number n s s.argument h b e;
+rule_kept : (l : LoadedLaunch) (t : Taken) (rule : ℕ) (x : Option ℕ) → NoneBreaks l t rule → rule < 18 → breaks l (Some t) rule x ≡ false
+rule_kept l t rule None h low = whole_outside l t rule (inl low)
+rule_kept l t rule (Some n) h low = h.none n
+
+passed_next : (l : LoadedLaunch) (t : Taken) (rule : ℕ) → Passed l t rule → NoneBreaks l t rule → rule < 18 → Passed l t (rule + 1)
+passed_next l t rule p h low = record {
+  none = λ s b. elim (lt_or_eq rule s.number (p.none s b)) [
+    | inl more ↦ omega (arith, more)
+    | inr same ↦ true_false (breaks l (Some t) s.number s.argument) b (subst (λ k. breaks l (Some t) k s.argument ≡ false) same (rule_kept l t rule s.argument h low))
+  ];
 }
 
-pub least_alone : (l : LoadedLaunch) (ps : List Parameter) (number : ℕ) → Passed l ps number → Breaks l (Some ps) (broken number None) → IsLeastBroken l (Some ps) (broken number None)
-least_alone l ps number p h = record {
-  breaks = h;
-  least = λ s b. not_below s.number number (p.none s b);
+pub passed_12 : (l : LoadedLaunch) (t : Taken) → NoneBreaks l t 11 → Passed l t 12
+passed_12 l t h = passed_next l t 11 (passed_11 l t) h (omega arith)
+
+pub passed_14 : (l : LoadedLaunch) (found : List Found) (required : Option (List ℕ)) → NoneBreaks l (taken_from found required) 11 → NoneBreaks l (taken_from found required) 12 → Passed l (taken_from found required) 14
+passed_14 l found required a b = let t = taken_from found required in passed_next l t 13 (passed_next l t 12 (passed_12 l t a) b (omega arith)) (none_13 l found required) (omega arith)
+
+pub passed_15 : (l : LoadedLaunch) (found : List Found) (required : Option (List ℕ)) → NoneBreaks l (taken_from found required) 11 → NoneBreaks l (taken_from found required) 12 → NoneBreaks l (taken_from found required) 14 → Passed l (taken_from found required) 15
+passed_15 l found required a b c = passed_next l (taken_from found required) 14 (passed_14 l found required a b) c (omega arith)
+
+pub passed_16 : (l : LoadedLaunch) (found : List Found) (required : Option (List ℕ)) → NoneBreaks l (taken_from found required) 11 → NoneBreaks l (taken_from found required) 12 → NoneBreaks l (taken_from found required) 14 → NoneBreaks l (taken_from found required) 15 → Passed l (taken_from found required) 16
+passed_16 l found required a b c d = passed_next l (taken_from found required) 15 (passed_15 l found required a b c) d (omega arith)
+
+pub passed_18 : (l : LoadedLaunch) (found : List Found) (required : Option (List ℕ)) → NoneBreaks l (taken_from found required) 11 → NoneBreaks l (taken_from found required) 12 → NoneBreaks l (taken_from found required) 14 → NoneBreaks l (taken_from found required) 15 → NoneBreaks l (taken_from found required) 16 → Passed l (taken_from found required) 18
+passed_18 l found required a b c d e = let t = taken_from found required in passed_next l t 17 (passed_next l t 16 (passed_16 l found required a b c d) e (omega arith)) (none_17 l found required) (omega arith)
+
+no_later : (l : LoadedLaunch) (t : Taken) (rule n number : ℕ) (x : Option ℕ) → IsFirst l t rule n → breaks l (Some t) number x ≡ true → number ≡ rule → IsNoLater (Some n) x
+no_later l t rule n number None h b e = tt
+no_later l t rule n number (Some m) h b e = not_below m n (λ low. true_false (breaks_at l t rule m) (subst (λ k. breaks_at l t k m ≡ true) e b) (h.before m low))
+
+pub least_at : (l : LoadedLaunch) (t : Taken) (rule n : ℕ) → Passed l t rule → IsFirst l t rule n → IsLeastBroken l (Some t) (broken rule (Some n))
+least_at l t rule n p h = record {
+  breaks = h.breaks;
+  least = p.none;
+  first = λ s b e. no_later l t rule n s.number s.argument h b e;
+}
+
+not_earlier : (l : LoadedLaunch) (t : Taken) (rule number : ℕ) (x : Option ℕ) → IsFirstWhole l t rule → 18 ≤ number → breaks l (Some t) number x ≡ true → rule ≤ number
+not_earlier l t rule number None h high b = not_below number rule (λ low. true_false (breaks_whole l t number) b (h.before number high low))
+not_earlier l t rule number (Some n) h high b = true_false (breaks_at l t number n) b (at_outside l t number n (inr (omega (arith, high))))
+
+pub least_whole : (l : LoadedLaunch) (t : Taken) (rule : ℕ) → Passed l t 18 → IsFirstWhole l t rule → IsLeastBroken l (Some t) (broken rule None)
+least_whole l t rule p h = record {
+  breaks = h.breaks;
+  least = λ s b. not_earlier l t rule s.number s.argument h (p.none s b) b;
   first = λ s b e. tt;
 }
 
-kernel_first : (l : LoadedLaunch) (s : BrokenRule) → Breaks l None s → 10 ≤ s.number
-kernel_first l s (no_kernel e t) = let k = numbered s 10 None e in omega (arith, k)
-kernel_first l s (not_given qs n e t within none) = absurd (let never : ⊥ = cc in never)
-kernel_first l s (past_end qs n kind e t line past) = absurd (let never : ⊥ = cc in never)
-kernel_first l s (other_kind qs n p kind e t at line other) = absurd (let never : ⊥ = cc in never)
-kernel_first l s (other_size qs n p kind e t at line other) = absurd (let never : ⊥ = cc in never)
-kernel_first l s (unfilled qs e t other) = absurd (let never : ⊥ = cc in never)
-kernel_first l s (over_limits qs e t other) = absurd (let never : ⊥ = cc in never)
+none_kept : (l : LoadedLaunch) (t : Taken) (number : ℕ) (x : Option ℕ) → NoneWhole l t → 18 ≤ number → breaks l (Some t) number x ≡ false
+none_kept l t number None h high = h.none number high
+none_kept l t number (Some n) h high = at_outside l t number n (inr (omega (arith, high)))
+
+pub keeps_rules : (l : LoadedLaunch) (t : Taken) → Passed l t 18 → NoneWhole l t → KeepsRules t l
+keeps_rules l t p h = record { none = λ number x. not_true (breaks l (Some t) number x) (λ b. true_false (breaks l (Some t) number x) b (none_kept l t number x h (p.none (broken number x) b))) }
 
 -- there is no such kernel
+no_kernel_by : (l : LoadedLaunch) (number : ℕ) (x : Option ℕ) → breaks l None number x ≡ true → 10 ≤ number
+no_kernel_by l number None b = (let same = eqb-true number 10 b in omega (arith, same))
+no_kernel_by l number (Some n) b = absurd (let never : false ≡ true = b in cc)
+
 pub least_kernel : (l : LoadedLaunch) → IsLeastBroken l None (broken 10 None)
-least_kernel l = record { breaks = no_kernel refl refl; least = λ s b. kernel_first l s b; first = λ s b e. tt }
-
--- ---- a launch that breaks no rule keeps the rules
-
-some_line : (l : LoadedLaunch) (ps : List Parameter) (n : ℕ) (o : Option ArgKind) → line_for n l.arguments ≡ o → NoneBreaks l ps 11 → n < length ps → (kind : ArgKind) × Gives l n kind
-some_line l ps n (Some kind) e h w = (kind, line_gives l.arguments n kind e)
-some_line l ps n None e h w = absurd (h.none n (not_given ps n refl refl w (λ kind g. line_missing l.arguments n e kind g)))
-
-of_kind : (p : Parameter) (kind : ArgKind) → ((IsOfKind p kind → ⊥) → ⊥) → IsOfKind p kind
-of_kind (GlobalPointer element) (Buffer file) h = tt
-of_kind (GlobalPointer element) (Local bytes) h = absurd (h (λ b. b))
-of_kind (GlobalPointer element) (Plain bytes) h = absurd (h (λ b. b))
-
-size_by : (buffers : List (List ℕ)) (element file : ℕ) (o : Option (List ℕ)) → slice_get buffers file ≡ o → ((IsOfSize buffers (GlobalPointer element) (Buffer file) → ⊥) → ⊥) → IsOfSize buffers (GlobalPointer element) (Buffer file)
-size_by buffers element file None e h = absurd (h (λ b. (let never : ⊥ = cc (b.1) in never)))
-size_by buffers element file (Some bytes) e h = (bytes, e, stable_size element (length bytes) (λ n. h (λ b. n (subst (λ (x : List ℕ). IsBufferSize element (length x)) (same_Some b.0 bytes (sym b.1 ∙ e)) b.2))))
-
-of_size : (buffers : List (List ℕ)) (p : Parameter) (kind : ArgKind) → ((IsOfSize buffers p kind → ⊥) → ⊥) → IsOfSize buffers p kind
-of_size buffers (GlobalPointer element) (Buffer file) h = size_by buffers element file (slice_get buffers file) refl h
-of_size buffers (GlobalPointer element) (Local bytes) h = tt
-of_size buffers (GlobalPointer element) (Plain bytes) h = tt
-
-within_by : (l : LoadedLaunch) (ps : List Parameter) (n : ℕ) (kind : ArgKind) (b : Bool) → ltb n (length ps) ≡ b → NoneBreaks l ps 11 → Gives l n kind → n < length ps
-within_by l ps n kind true e h g = ltb-true n (length ps) e
-within_by l ps n kind false e h g = absurd (h.none n (past_end ps n kind refl refl g (ltb-false n (length ps) e)))
-
-pub keeps_rules : (l : LoadedLaunch) (ps : List Parameter) → NoneBreaks l ps 11 → NoneBreaks l ps 12 → NoneBreaks l ps 14 → FillsGrid l → IsWithinLimits l → KeepsRules ps l
-keeps_rules l ps a b c fills limits = record {
-  given = λ n w. some_line l ps n (line_for n l.arguments) refl a w;
-  within = λ n kind g. within_by l ps n kind (ltb n (length ps)) refl a g;
-  kinds = λ n p kind at g. of_kind p kind (λ other. b.none n (other_kind ps n p kind refl refl at g other));
-  sizes = λ n p kind at g. of_size l.buffers p kind (λ other. c.none n (other_size ps n p kind refl refl at g other));
-  fills = fills;
-  limits = limits;
-}
-
--- what breaks no rule keeps the rules, where it is known of the grid too
-pub keeps_unbroken : (l : LoadedLaunch) (ps : List Parameter) → ((FillsGrid l) ⊎ (FillsGrid l → ⊥)) → ((IsWithinLimits l) ⊎ (IsWithinLimits l → ⊥)) → ((r : BrokenRule) → Breaks l (Some ps) r → ⊥) → KeepsRules ps l
-keeps_unbroken l ps fills limits h = keeps_rules l ps (record { none = λ n b. h _ b }) (record { none = λ n b. h _ b }) (record { none = λ n b. h _ b })
-    (elim fills [ inl p ↦ p | inr p ↦ absurd (h (broken 18 None) (unfilled ps refl refl p)) ])
-    (elim limits [ inl p ↦ p | inr p ↦ absurd (h (broken 19 None) (over_limits ps refl refl p)) ])
-
-moved_back : (P : List Parameter → Type 0) (ps qs : List Parameter) → Some ps ≡ Some qs → P qs → P ps
-moved_back P ps qs e h = subst P (sym (same_Some ps qs e)) h
-
--- and what keeps the rules breaks none
-pub unbroken : (l : LoadedLaunch) (ps : List Parameter) → KeepsRules ps l → (r : BrokenRule) → Breaks l (Some ps) r → ⊥
-unbroken l ps h r (no_kernel e t) = (let never : ⊥ = cc in never)
-unbroken l ps h r (not_given qs n e t within none) = (let w = moved_back (λ rs. n < length rs) ps qs t within in let g = h.given n w in none g.0 g.1)
-unbroken l ps h r (past_end qs n kind e t line past) = (let p = moved_back (λ rs. length rs ≤ n) ps qs t past in let w = h.within n kind line in omega (arith, p, w))
-unbroken l ps h r (other_kind qs n p kind e t at line other) = other (h.kinds n p kind (moved_back (λ rs. slice_get rs n ≡ Some p) ps qs t at) line)
-unbroken l ps h r (other_size qs n p kind e t at line other) = other (h.sizes n p kind (moved_back (λ rs. slice_get rs n ≡ Some p) ps qs t at) line)
-unbroken l ps h r (unfilled qs e t other) = other h.fills
-unbroken l ps h r (over_limits qs e t other) = other h.limits
-
--- ---- of what the code has
-
-pub kinds_end : (l : LoadedLaunch) (found : List Found) (n : ℕ) → NoneBefore l (parameters_from found) 12 n → length found ≤ n → NoneBreaks l (parameters_from found) 12
-kinds_end l found n h past = let same = length-map found parameter_from in kinds_all l (parameters_from found) n h (omega (arith, same, past))
-
-pub sizes_end : (l : LoadedLaunch) (found : List Found) (n : ℕ) → NoneBefore l (parameters_from found) 14 n → length found ≤ n → NoneBreaks l (parameters_from found) 14
-sizes_end l found n h past = let same = length-map found parameter_from in sizes_all l (parameters_from found) n h (omega (arith, same, past))
-
-pub taken_at : (found : List Found) (n : ℕ) (d : Found) → n < length found → slice_get (parameters_from found) n ≡ Some (parameter_from (get_or found n d))
-taken_at found n d w = slice_get-map parameter_from found n ∙ ap (option_map parameter_from) (slice_get-get_or found n d w)
-
-pub own_lines : (launch : Launch) → IsReadable launch → AreOnce launch.args
-own_lines launch h = (h.launch launch.files refl).once
-
-pub keeping_kind : (l : LoadedLaunch) (ps : List Parameter) (n : ℕ) (p : Parameter) (kind : ArgKind) (r : Bool) → AreOnce l.arguments → slice_get ps n ≡ Some p → line_for n l.arguments ≡ Some kind → MatchBool r (IsOfKind p kind) (IsOfKind p kind → ⊥) → Keeping l ps 12 n r
-keeping_kind l ps n p kind true once at line test = kind_kept l ps n p kind once at line test
-keeping_kind l ps n p kind false once at line test = kind_breaks l ps n p kind at line test
-
-pub keeping_size : (l : LoadedLaunch) (ps : List Parameter) (n : ℕ) (p : Parameter) (kind : ArgKind) (r : Bool) → AreOnce l.arguments → slice_get ps n ≡ Some p → line_for n l.arguments ≡ Some kind → MatchBool r (IsOfSize l.buffers p kind) (IsOfSize l.buffers p kind → ⊥) → Keeping l ps 14 n r
-keeping_size l ps n p kind true once at line test = size_kept l ps n p kind once at line test
-keeping_size l ps n p kind false once at line test = size_breaks l ps n p kind at line test
+least_kernel l = record { breaks = refl; least = λ s b. no_kernel_by l s.number s.argument b; first = λ s b e. tt }
 
 -- ---- the laws
 
-fills_by : (l : LoadedLaunch) (a b c : Bool) → MatchBool a (Divides l.local.x l.global.x) (Divides l.local.x l.global.x → ⊥) → MatchBool b (Divides l.local.y l.global.y) (Divides l.local.y l.global.y → ⊥) → MatchBool c (Divides l.local.z l.global.z) (Divides l.local.z l.global.z → ⊥) → FillsGrid l ⊎ (FillsGrid l → ⊥)
-fills_by l true true true x y z = inl (record { x = x; y = y; z = z })
-fills_by l true true false x y z = inr (λ h. z h.z)
-fills_by l true false c x y z = inr (λ h. y h.y)
-fills_by l false b c x y z = inr (λ h. x h.x)
+pub unbroken_is_kept : (l : LoadedLaunch) (t : Taken) → ((r : BrokenRule) → Breaks l (Some t) r → ⊥) → KeepsRules t l
+unbroken_is_kept l t h = record { none = λ number x. not_true (breaks l (Some t) number x) (h (broken number x)) }
 
-limits_by : (l : LoadedLaunch) (a b : Bool) → leb (volume l.local) 1024 ≡ a → leb (volume l.global) 16384 ≡ b → IsWithinLimits l ⊎ (IsWithinLimits l → ⊥)
-limits_by l true true d e = inl (record { group = leb-true (volume l.local) 1024 d; grid = leb-true (volume l.global) 16384 e })
-limits_by l true false d e = inr (λ h. (let low = h.grid in let high = leb-false (volume l.global) 16384 e in omega (arith, low, high)))
-limits_by l false b d e = inr (λ h. (let low = h.group in let high = leb-false (volume l.local) 1024 d in omega (arith, low, high)))
+pub unbroken : (l : LoadedLaunch) (t : Taken) → KeepsRules t l → (r : BrokenRule) → Breaks l (Some t) r → ⊥
+unbroken l t k r b = true_false (breaks l (Some t) r.number r.argument) b (k.none r.number r.argument)
 
-pub unbroken_is_kept : (l : LoadedLaunch) (ps : List Parameter) → IsLaunch l → ((r : BrokenRule) → Breaks l (Some ps) r → ⊥) → KeepsRules ps l
-unbroken_is_kept l ps h none = keeps_unbroken l ps
-    (fills_by l (eqb (l.global.x % l.local.x) 0) (eqb (l.global.y % l.local.y) 0) (eqb (l.global.z % l.local.z) 0) (divides_test l.local.x l.global.x h.local.x.some) (divides_test l.local.y l.global.y h.local.y.some) (divides_test l.local.z l.global.z h.local.z.some))
-    (limits_by l (leb (volume l.local) 1024) (leb (volume l.global) 16384) refl refl) none
+-- ---- the launch as a whole
+
+-- it breaks no rule from 18 on below this one
+record UpTo (l : LoadedLaunch) (t : Taken) (rule : ℕ) : Type 0 where
+  kept : (other : ℕ) → 18 ≤ other → other < rule → breaks_whole l t other ≡ false
+
+up_to_18 : (l : LoadedLaunch) (t : Taken) → UpTo l t 18
+up_to_18 l t = record { kept = λ other high low. absurd (omega (arith, high, low)) }
+
+up_to_next : (l : LoadedLaunch) (t : Taken) (rule : ℕ) → UpTo l t rule → breaks_whole l t rule ≡ false → UpTo l t (rule + 1)
+up_to_next l t rule h e = record {
+  kept = λ other high low. elim (lt_or_eq other rule (omega (arith, low))) [
+    | inl p ↦ h.kept other high p
+    | inr p ↦ subst (λ k. breaks_whole l t k ≡ false) (sym p) e
+  ];
+}
+
+pub first_18 : (l : LoadedLaunch) (t : Taken) → false ≡ fills_grid l.global l.local → IsFirstWhole l t 18
+first_18 l t a = record { high = omega arith; breaks = ap not (sym a); before = (up_to_18 l t).kept }
+
+up_to_19 : (l : LoadedLaunch) (t : Taken) → true ≡ fills_grid l.global l.local → UpTo l t 19
+up_to_19 l t a = up_to_next l t 18 (up_to_18 l t) (ap not (sym a))
+
+pub first_19 : (l : LoadedLaunch) (t : Taken) → true ≡ fills_grid l.global l.local → false ≡ is_within_limits l.global l.local → IsFirstWhole l t 19
+first_19 l t a b = record { high = omega arith; breaks = ap not (sym b); before = (up_to_19 l t a).kept }
+
+up_to_20 : (l : LoadedLaunch) (t : Taken) → true ≡ fills_grid l.global l.local → true ≡ is_within_limits l.global l.local → UpTo l t 20
+up_to_20 l t a b = up_to_next l t 19 (up_to_19 l t a) (ap not (sym b))
+
+pub first_20 : (l : LoadedLaunch) (t : Taken) → true ≡ fills_grid l.global l.local → true ≡ is_within_limits l.global l.local → false ≡ list_all (same_sizes l.local) t.required → IsFirstWhole l t 20
+first_20 l t a b c = record { high = omega arith; breaks = ap not (sym c); before = (up_to_20 l t a b).kept }
+
+up_to_21 : (l : LoadedLaunch) (t : Taken) → true ≡ fills_grid l.global l.local → true ≡ is_within_limits l.global l.local → true ≡ list_all (same_sizes l.local) t.required → UpTo l t 21
+up_to_21 l t a b c = up_to_next l t 20 (up_to_20 l t a b) (ap not (sym c))
+
+pub first_21 : (l : LoadedLaunch) (t : Taken) → true ≡ fills_grid l.global l.local → true ≡ is_within_limits l.global l.local → true ≡ list_all (same_sizes l.local) t.required → true ≡ ltb 32768 (local_sum l.arguments) → IsFirstWhole l t 21
+first_21 l t a b c d = record { high = omega arith; breaks = sym d; before = (up_to_21 l t a b c).kept }
+
+whole_by : (l : LoadedLaunch) (t : Taken) (rule : ℕ) (b : Bool) → ltb rule 22 ≡ b → UpTo l t 22 → 18 ≤ rule → breaks_whole l t rule ≡ false
+whole_by l t rule true e h high = h.kept rule high (ltb-true rule 22 e)
+whole_by l t rule false e h high = whole_outside l t rule (inr (let more = ltb-false rule 22 e in omega (arith, more)))
+
+pub none_whole : (l : LoadedLaunch) (t : Taken) → true ≡ fills_grid l.global l.local → true ≡ is_within_limits l.global l.local → true ≡ list_all (same_sizes l.local) t.required → false ≡ ltb 32768 (local_sum l.arguments) → NoneWhole l t
+none_whole l t a b c d = record { none = λ rule high. whole_by l t rule (ltb rule 22) refl (up_to_next l t 21 (up_to_21 l t a b c) (sym d)) high }
+
+-- ---- the sum of the buffers
+
+or_true : (b : Bool) → b || true ≡ true
+or_true true = refl
+or_true false = refl
+
+and_false : (b : Bool) → b && false ≡ false
+and_false true = refl
+and_false false = refl
+
+both_14 : (l : LoadedLaunch) (t : Taken) (n : ℕ) (p : Parameter) (given : ArgKind) → slice_get t.parameters n ≡ Some p → Some given ≡ given_to n l.arguments → breaks_at l t 14 n ≡ not (is_of_size l.buffers p given) || goes_over l n
+both_14 l t n p given at line = ap (λ q. breaks_both l t 14 n q (given_to n l.arguments)) at ∙ ap (breaks_both l t 14 n (Some p)) (sym line)
+
+pub wrong_size : (l : LoadedLaunch) (t : Taken) (n : ℕ) (p : Parameter) (given : ArgKind) → slice_get t.parameters n ≡ Some p → Some given ≡ given_to n l.arguments → false ≡ is_of_size l.buffers p given → breaks_at l t 14 n ≡ true
+wrong_size l t n p given at line e = both_14 l t n p given at line ∙ ap (λ b. not b || goes_over l n) (sym e)
+
+sum_next : (l : LoadedLaunch) (n : ℕ) (given : ArgKind) (sum added : ℕ) → Some given ≡ given_to n l.arguments → sum ≡ sum_before l n → added ≡ added_by l.buffers l.arguments n (Some given) → sum + added ≡ sum_before l (suc n)
+sum_next l n given sum added line e d = ap (λ k. k + added) e ∙ ap (λ k. sum_before l n + k) (d ∙ ap (added_by l.buffers l.arguments n) line)
+
+sum_by : (l : LoadedLaunch) (t : Taken) (n sum added : ℕ) (b : Bool) (r : Option ℕ) → ltb 67108864 (sum + added) ≡ b → breaks_at l t 14 n ≡ goes_over l n → sum ≡ sum_before l n → sum ≤ 67108864 → sum + added ≡ sum_before l (suc n) → r ≡ cond b None (Some (sum + added)) → SumAfter l t n r
+sum_by l t n sum added true r e at s low next is = subst (SumAfter l t n) (sym is) (
+    at ∙ ap (λ b. b && ltb 67108864 (sum_before l (suc n))) (ap (λ k. leb k 67108864) (sym s) ∙ le-leb sum 67108864 low) ∙ ap (ltb 67108864) (sym next) ∙ e)
+sum_by l t n sum added false r e at s low next is = subst (SumAfter l t n) (sym is) (record {
+  keeps = at ∙ ap (λ b. leb (sum_before l n) 67108864 && b) (ap (ltb 67108864) (sym next) ∙ e) ∙ and_false (leb (sum_before l n) 67108864);
+  is = next;
+  within = ltb-false 67108864 (sum + added) e;
+})
+
+pub sum_said : (l : LoadedLaunch) (t : Taken) (n : ℕ) (p : Parameter) (given : ArgKind) (sum added : ℕ) (r : Option ℕ) → slice_get t.parameters n ≡ Some p → Some given ≡ given_to n l.arguments → true ≡ is_of_size l.buffers p given → sum ≡ sum_before l n → sum ≤ 67108864 → added ≡ added_by l.buffers l.arguments n (Some given) → r ≡ sum_within (sum + added) → SumAfter l t n r
+sum_said l t n p given sum added r at line fits s low more is = sum_by l t n sum added (ltb 67108864 (sum + added)) r refl (both_14 l t n p given at line ∙ ap (λ b. not b || goes_over l n) (sym fits)) s low (sum_next l n given sum added line s more) is
+
+pub sum_unsaid : (l : LoadedLaunch) (t : Taken) (n sum : ℕ) → None ≡ given_to n l.arguments → sum ≡ sum_before l n → sum ≤ 67108864 → IsSum l t n sum
+sum_unsaid l t n sum line s low = record {
+  keeps = ap (breaks_both l t 14 n (slice_get t.parameters n)) (sym line) ∙ both_unsaid l t 14 n (slice_get t.parameters n);
+  is = s ∙ (let z : sum_before l n ≡ sum_before l n + 0 = omega arith in z) ∙ ap (λ k. sum_before l n + k) (ap (added_by l.buffers l.arguments n) line);
+  within = low;
+}
+
+pub taken_at : (found : List Found) (required : Option (List ℕ)) (n : ℕ) (d : Found) → n < length found → slice_get (taken_from found required).parameters n ≡ Some (parameter_from (get_or found n d))
+taken_at found required n d w = slice_get-map parameter_from found n ∙ ap (option_map parameter_from) (slice_get-get_or found n d w)
+
+-- the sum so far, with which no argument has broken rule 14
+pub record Summed (l : LoadedLaunch) (t : Taken) (n sum : ℕ) : Type 0 where
+  pub none : NoneBefore l t 14 n
+  pub is : sum ≡ sum_before l n
+  pub within : sum ≤ 67108864
+
+pub summed_first : (l : LoadedLaunch) (t : Taken) → Summed l t 0 0
+summed_first l t = record { none = none_yet l t 14; is = refl; within = omega arith }
+
+pub summed_more : (l : LoadedLaunch) (t : Taken) (n sum : ℕ) → NoneBefore l t 14 n → IsSum l t n sum → Summed l t (n + 1) sum
+summed_more l t n sum h s = record {
+  none = none_more l t 14 n h s.keeps;
+  is = s.is ∙ (let one : suc n ≡ n + 1 = omega arith in ap (sum_before l) one);
+  within = s.within;
+}
+
+pub sizes_end : (l : LoadedLaunch) (found : List Found) (required : Option (List ℕ)) (n : ℕ) → NoneBefore l (taken_from found required) 14 n → length found ≤ n → NoneBreaks l (taken_from found required) 14
+sizes_end l found required n h past = none_at_end l found required 14 n looks_14 h past

@@ -8,7 +8,7 @@ use Rattle.std.proofs.lemmas.Option.{same_Some}
 use Rattle.launch_text.specs.declared.launch.ArgLine.{ArgLine}
 use Rattle.launch_text.specs.declared.launch.Launch.{Launch}
 use Rattle.launch_text.specs.Readable.{IsReadable}
-use Rattle.launch_text.specs.Rules.{LoadedLaunch, Parameter, buffer_given, broken, IsLeastBroken}
+use Rattle.launch_text.specs.Rules.{LoadedLaunch, Parameter, Taken, buffer_given, broken, IsLeastBroken}
 use Rattle.spv_meaning.specs.Start.{Bound, Start}
 use Rattle.spv_module.specs.declared.module.Inst.{Inst}
 use Rattle.spv_module.specs.declared.module.Module.{Module}
@@ -23,8 +23,8 @@ use Rattle.spv_reflect.specs.declared.rows.Reflection.{Reflection}
 use Rattle.spv_reflect.specs.Reflection.{Line, KernelLine, NameLine, BufferLine, SizesLine, WrongLine, UnknownLine, line_of, with_line, lines_in, are_right, name_in, arguments_in, kernels_in, rows_in, rows_by, rows_of}
 use Rattle.vk_bind.specs.declared.parameters.Parameter.{Parameter as Found}
 use Rattle.vk_bind.specs.declared.start.Bound.{Bound as Pair}
-use Rattle.vk_bind.specs.Answers.{bound_of, bounds_from, parameter_from, parameters_from, IsAccepted}
-use Rattle.vk_bind.specs.Binding.{bound_by, bound_from, kernel_among, parameter_of, takes_in, start_of, BindsTo}
+use Rattle.vk_bind.specs.Answers.{bound_of, bounds_from, parameter_from, parameters_from, taken_from, IsAccepted}
+use Rattle.vk_bind.specs.Binding.{bound_by, bound_from, kernel_among, parameter_of, required_by, taken_of, takes_in, start_of, BindsTo}
 
 -- ---- what is bound
 
@@ -155,19 +155,19 @@ few_buffers launch buffers h e = let few = h.few in omega (arith, few, e)
 
 -- ---- the kernel and the start
 
-pub takes_row : (body : List Inst) (r : Reflection) (name : List ℕ) (row : KernelRow) (o : Option (List Parameter)) → rows_of body ≡ Some r → kernel_among name r.kernels ≡ Some row → o ≡ for_each (parameter_of body) row.args → takes_in body name ≡ o
-takes_row body r name row o rows found taken = ap (λ x. x >>= λ r. kernel_among name r.kernels >>= λ row. for_each (parameter_of body) row.args) rows ∙ ap (λ x. x >>= λ row. for_each (parameter_of body) row.args) found ∙ sym taken
+pub takes_row : (body : List Inst) (r : Reflection) (name : List ℕ) (row : KernelRow) (o : Option Taken) → rows_of body ≡ Some r → kernel_among name r.kernels ≡ Some row → o ≡ taken_of body row → takes_in body name ≡ o
+takes_row body r name row o rows found taken = ap (λ x. x >>= λ r. kernel_among name r.kernels >>= taken_of body) rows ∙ ap (λ x. x >>= taken_of body) found ∙ sym taken
 
 pub takes_none : (body : List Inst) (r : Reflection) (name : List ℕ) → rows_of body ≡ Some r → kernel_among name r.kernels ≡ None → takes_in body name ≡ None
-takes_none body r name rows found = ap (λ x. x >>= λ r. kernel_among name r.kernels >>= λ row. for_each (parameter_of body) row.args) rows ∙ ap (λ x. x >>= λ row. for_each (parameter_of body) row.args) found
+takes_none body r name rows found = ap (λ x. x >>= λ r. kernel_among name r.kernels >>= taken_of body) rows ∙ ap (λ x. x >>= taken_of body) found
 
 pub binds : (body : List Inst) (r : Reflection) (l : LoadedLaunch) (row : KernelRow) (start : Start) → rows_of body ≡ Some r → IsAccepted body r l row → start_of r row l ≡ start → BindsTo body l start
 binds body r l row start rows h same = subst (λ s. BindsTo body l s) same (record {
-  parameters = h.suits.parameters;
+  taken = h.suits.taken;
   binding =
-      ap (λ x. x >>= λ r. kernel_among l.kernel r.kernels >>= λ row. for_each (parameter_of body) row.args >>= λ parameters. Some (parameters, start_of r row l)) rows
-      ∙ ap (λ x. x >>= λ row. for_each (parameter_of body) row.args >>= λ parameters. Some (parameters, start_of r row l)) h.found
-      ∙ ap (λ x. x >>= λ parameters. Some (parameters, start_of r row l)) h.suits.taken;
+      ap (λ x. x >>= λ r. kernel_among l.kernel r.kernels >>= λ row. taken_of body row >>= λ taken. Some (taken, start_of r row l)) rows
+      ∙ ap (λ x. x >>= λ row. taken_of body row >>= λ taken. Some (taken, start_of r row l)) h.found
+      ∙ ap (λ x. x >>= λ taken. Some (taken, start_of r row l)) h.suits.takes;
   rules = h.suits.rules;
 })
 
@@ -179,7 +179,17 @@ same_among name kernel rows kernels o d e h = ap (λ n. kernel_among n kernels) 
 pub same_taken : (body : List Inst) (rows args : List ArgRow) (o p : Option (List Found)) → rows ≡ args → o ≡ p → option_map parameters_from o ≡ for_each (parameter_of body) rows → option_map parameters_from p ≡ for_each (parameter_of body) args
 same_taken body rows args o p d e h = ap (option_map parameters_from) (sym e) ∙ h ∙ ap (for_each (parameter_of body)) d
 
-pub stop_by : (l : LoadedLaunch) (takes other : Option (List Parameter)) (number : ℕ) (argument : Option ℕ) → takes ≡ other → IsLeastBroken l other (broken number argument) → IsLeastBroken l takes (broken number argument)
+-- what the row takes, by what was found of its arguments
+abbrev with_required : Option (List ℕ) → Option (List Parameter) → Option Taken
+with_required required o = o >>= λ parameters. Some (record { parameters = parameters; required = required_by required })
+
+pub taken_some : (body : List Inst) (row : KernelRow) (rows : List ArgRow) (found slice : List Found) → rows ≡ row.args → Some (parameters_from found) ≡ for_each (parameter_of body) rows → slice ≡ found → taken_of body row ≡ Some (taken_from slice row.required)
+taken_some body row rows found slice d e same = ap (λ as_. with_required row.required (for_each (parameter_of body) as_)) (sym d) ∙ ap (with_required row.required) (sym e) ∙ ap (λ f. Some (taken_from f row.required)) (sym same)
+
+pub taken_none : (body : List Inst) (row : KernelRow) (rows : List ArgRow) → rows ≡ row.args → None ≡ for_each (parameter_of body) rows → taken_of body row ≡ None
+taken_none body row rows d e = ap (λ as_. with_required row.required (for_each (parameter_of body) as_)) (sym d) ∙ ap (with_required row.required) (sym e)
+
+pub stop_by : (l : LoadedLaunch) (takes other : Option Taken) (number : ℕ) (argument : Option ℕ) → takes ≡ other → IsLeastBroken l other (broken number argument) → IsLeastBroken l takes (broken number argument)
 stop_by l takes other number argument e h = subst (λ t. IsLeastBroken l t (broken number argument)) (sym e) h
 
 pub few_found : (body : List Inst) (args : List ArgRow) (found slice : List Found) → length args < 2 ^ 32 → Some (parameters_from found) ≡ for_each (parameter_of body) args → slice ≡ found → length slice < 2 ^ 32

@@ -1,31 +1,54 @@
 -- What the calls of this crate answer, in the words of the definitions.
-use Rattle.std.specs.Prelude.{◌≡◌, ℕ, ◌<◌, ◌≤◌, Bool, true, false, ◌||◌, nat_eq, nat_lt, nat_le, if◌then◌else◌, List, [], ◌∷◌, length, map, Option, Some, None, Contains}
-use Rattle.launch_text.specs.declared.launch.ArgKind.{ArgKind}
+use Rattle.std.specs.Prelude.{◌≡◌, ℕ, suc, ◌<◌, ◌≤◌, Bool, true, false, not, ◌&&◌, ◌||◌, nat_lt, nat_le, if◌then◌else◌, List, [], ◌∷◌, length, map, Option, Some, None, Contains, slice_get}
 use Rattle.launch_text.specs.declared.launch.ArgLine.{ArgLine}
-use Rattle.launch_text.specs.Rules.{LoadedLaunch, IsLaunch, Parameter, GlobalPointer, BrokenRule, broken, Breaks, IsLeastBroken, KeepsRules}
+use Rattle.launch_text.specs.Rules.{LoadedLaunch, Parameter, BufferPointer, Taken, BrokenRule, broken, given_to, is_of_kind, has_other_elements, is_restricted, has_buffer_of_another, sum_before, breaks_at, breaks_whole, Breaks, IsLeastBroken, KeepsRules}
+use Rattle.launch_text.specs.declared.launch.ArgKind.{ArgKind}
 use Rattle.launch_text.specs.WorkItems.{sizes_of}
 use Rattle.spv_meaning.specs.Start.{Bound, Specialised, Start}
 use Rattle.spv_module.specs.declared.module.Inst.{Inst}
 use Rattle.spv_module.specs.declared.module.Module.{Module}
-use Rattle.spv_module.specs.Options.{for_each}
+use Rattle.spv_module.specs.declared.enumerant.decoration.TheConstants as decoration
+use Rattle.spv_module.specs.Instructions.{decoration_in}
+use Rattle.spv_module.specs.Interface.{number_of}
+use Rattle.spv_module.specs.Options.{◌>>=◌}
 use Rattle.spv_reflect.specs.declared.rows.KernelRow.{KernelRow}
 use Rattle.spv_reflect.specs.declared.rows.Reflection.{Reflection}
 use Rattle.vk_bind.specs.declared.binding.Broken.{Broken}
+use Rattle.vk_bind.specs.declared.elements.Scalar.{Scalar}
 use Rattle.vk_bind.specs.declared.parameters.Parameter.{Parameter as Found}
+use Rattle.vk_bind.specs.declared.rules.ArgumentRule.{ArgumentRule}
+use Rattle.vk_bind.specs.declared.rules.ArgumentRule.TheVariants.{Kind, Elements, Restricted}
 use Rattle.vk_bind.specs.declared.start.BindStop.{BindStop}
 use Rattle.vk_bind.specs.declared.start.BindStop.TheVariants.{Fault, NoMemory}
 use Rattle.vk_bind.specs.declared.start.Bound.{Bound as Pair}
 use Rattle.vk_bind.specs.declared.start.Spec.{Spec}
 use Rattle.vk_bind.specs.declared.start.Start.{Start as Begin}
-use Rattle.vk_bind.specs.Binding.{parameter_of, kernel_among}
+use Rattle.vk_bind.specs.Binding.{array_of, required_by, taken_of, kernel_among}
+use Rattle.vk_bind.specs.Elements.{element_in}
 
 -- ---- what values of the code mean
 
+abbrev pub scalar_of : Scalar → ℕ × ℕ
+scalar_of s = (s.offset, s.bits)
+
+abbrev pub scalars_of : List Scalar → List (ℕ × ℕ)
+scalars_of = map scalar_of
+
+-- the bytes from one element of an array to the next, and the type of its elements
+abbrev pub stride_and_element : List Inst → ℕ → Option (ℕ × ℕ)
+stride_and_element body array = number_of (decoration_in body array decoration.ARRAY_STRIDE) >>= λ stride. element_in body array >>= λ element. Some (stride, element)
+
+abbrev pub elements_by : List Inst → ℕ → Option (ℕ × ℕ)
+elements_by body v = array_of body v >>= stride_and_element body
+
 abbrev pub parameter_from : Found → Parameter
-parameter_from p = GlobalPointer p.stride
+parameter_from p = BufferPointer (record { size = p.stride; scalars = scalars_of p.scalars }) p.restricted
 
 abbrev pub parameters_from : List Found → List Parameter
 parameters_from = map parameter_from
+
+abbrev pub taken_from : List Found → Option (List ℕ) → Taken
+taken_from found required = record { parameters = parameters_from found; required = required_by required }
 
 abbrev pub bound_of : Pair → Bound
 bound_of b = record { set = b.set; binding = b.binding; buffer = b.buffer }
@@ -53,15 +76,15 @@ pub record Keeps (checked : Module) (buffers : List (List ℕ)) (s : Begin) : Ty
   pub no_push : s.push ≡ []
 
 -- Why a launch isn't bound: the least rule that it breaks, at the least argument; or want of memory, of which nothing is said.
-abbrev pub IsStopOf : LoadedLaunch → Option (List Parameter) → BindStop → Type 0
+abbrev pub IsStopOf : LoadedLaunch → Option Taken → BindStop → Type 0
 IsStopOf l takes (Fault number arg) = IsLeastBroken l takes (broken number arg)
 IsStopOf l takes NoMemory = Unit {0}
 
 -- The launch keeps the rules on what the row takes.
 pub record Suits (body : List Inst) (row : KernelRow) (l : LoadedLaunch) : Type 0 where
-  pub parameters : List Parameter
-  pub taken : for_each (parameter_of body) row.args ≡ Some parameters
-  pub rules : KeepsRules parameters l
+  pub taken : Taken
+  pub takes : taken_of body row ≡ Some taken
+  pub rules : KeepsRules taken l
 
 -- The row is that of the launch's kernel, and the launch keeps the rules on what the kernel takes.
 pub record IsAccepted (body : List Inst) (r : Reflection) (l : LoadedLaunch) (row : KernelRow) : Type 0 where
@@ -70,42 +93,77 @@ pub record IsAccepted (body : List Inst) (r : Reflection) (l : LoadedLaunch) (ro
 
 -- ---- one rule by itself
 
+abbrev pub number_by : ArgumentRule → ℕ
+number_by Kind = 12
+number_by Elements = 15
+number_by Restricted = 16
+
+-- whether an argument breaks it, for these parameters and lines
+abbrev pub alone_by : List Parameter → List ArgLine → ArgumentRule → ℕ → Parameter → ArgKind → Bool
+alone_by ps lines Kind n p given = not (is_of_kind p given)
+alone_by ps lines Elements n p given = has_other_elements ps lines p given
+alone_by ps lines Restricted n p given = is_restricted p && has_buffer_of_another lines n given
+
+abbrev pub alone_both : List Parameter → List ArgLine → ArgumentRule → ℕ → Option Parameter → Option ArgKind → Bool
+alone_both ps lines rule n (Some p) (Some given) = alone_by ps lines rule n p given
+alone_both ps lines rule n _ _ = false
+
+abbrev pub alone_at : List Parameter → List ArgLine → ArgumentRule → ℕ → Bool
+alone_at ps lines rule n = alone_both ps lines rule n (slice_get ps n) (given_to n lines)
+
 -- no argument breaks the rule
-pub record NoneBreaks (l : LoadedLaunch) (ps : List Parameter) (number : ℕ) : Type 0 where
-  pub none : (n : ℕ) → Breaks l (Some ps) (broken number (Some n)) → ⊥
+pub record NoneBreaks (l : LoadedLaunch) (t : Taken) (rule : ℕ) : Type 0 where
+  pub none : (n : ℕ) → breaks_at l t rule n ≡ false
 
 -- the argument breaks the rule, and none before it does
-pub record IsFirst (l : LoadedLaunch) (ps : List Parameter) (number n : ℕ) : Type 0 where
-  pub breaks : Breaks l (Some ps) (broken number (Some n))
-  pub before : (m : ℕ) → m < n → Breaks l (Some ps) (broken number (Some m)) → ⊥
+pub record IsFirst (l : LoadedLaunch) (t : Taken) (rule n : ℕ) : Type 0 where
+  pub breaks : breaks_at l t rule n ≡ true
+  pub before : (m : ℕ) → m < n → breaks_at l t rule m ≡ false
 
-abbrev pub Finds : LoadedLaunch → List Parameter → ℕ → Option ℕ → Type 0
-Finds l ps number None = NoneBreaks l ps number
-Finds l ps number (Some n) = IsFirst l ps number n
+abbrev pub Finds : LoadedLaunch → Taken → ℕ → Option ℕ → Type 0
+Finds l t rule None = NoneBreaks l t rule
+Finds l t rule (Some n) = IsFirst l t rule n
 
--- whether the argument keeps the rule
-abbrev pub Keeping : LoadedLaunch → List Parameter → ℕ → ℕ → Bool → Type 0
-Keeping l ps number n true = Breaks l (Some ps) (broken number (Some n)) → ⊥
-Keeping l ps number n false = Breaks l (Some ps) (broken number (Some n))
+-- no rule from 18 on is broken by the launch as a whole
+pub record NoneWhole (l : LoadedLaunch) (t : Taken) : Type 0 where
+  pub none : (rule : ℕ) → 18 ≤ rule → breaks_whole l t rule ≡ false
+
+-- it breaks this one, and none of those between
+pub record IsFirstWhole (l : LoadedLaunch) (t : Taken) (rule : ℕ) : Type 0 where
+  pub high : 18 ≤ rule
+  pub breaks : breaks_whole l t rule ≡ true
+  pub before : (other : ℕ) → 18 ≤ other → other < rule → breaks_whole l t other ≡ false
+
+abbrev pub FindsWhole : LoadedLaunch → Taken → Option ℕ → Type 0
+FindsWhole l t None = NoneWhole l t
+FindsWhole l t (Some rule) = IsFirstWhole l t rule
 
 -- the least rule that is broken, or none is
-abbrev pub Decides : LoadedLaunch → List Parameter → Option Broken → Type 0
-Decides l ps (Some b) = IsLeastBroken l (Some ps) (rule_from b)
-Decides l ps None = KeepsRules ps l
+abbrev pub Decides : LoadedLaunch → Taken → Option Broken → Type 0
+Decides l t (Some b) = IsLeastBroken l (Some t) (rule_from b)
+Decides l t None = KeepsRules t l
+
+-- The sum of the buffers up to an argument, which is within the limit. None where the argument breaks rule 14.
+pub record IsSum (l : LoadedLaunch) (t : Taken) (n sum : ℕ) : Type 0 where
+  pub keeps : breaks_at l t 14 n ≡ false
+  pub is : sum ≡ sum_before l (suc n)
+  pub within : sum ≤ 67108864
+
+abbrev pub sum_within : ℕ → Option ℕ
+sum_within sum = if nat_lt 67108864 sum then None else Some sum
+
+abbrev pub SumAfter : LoadedLaunch → Taken → ℕ → Option ℕ → Type 0
+SumAfter l t n (Some sum) = IsSum l t n sum
+SumAfter l t n None = breaks_at l t 14 n ≡ true
 
 -- ---- lines
 
--- what the first line of an argument gives it
-abbrev pub line_for : ℕ → List ArgLine → Option ArgKind
-line_for n [] = None
-line_for n (a ∷ as_) = if nat_eq a.ordinal n then Some a.kind else line_for n as_
-
 pub record AreGiven (count : ℕ) (args : List ArgLine) : Type 0 where
-  pub given : (n : ℕ) → n < count → (kind : ArgKind) × (line_for n args ≡ Some kind)
+  pub given : (n : ℕ) → n < count → (kind : ArgKind) × (given_to n args ≡ Some kind)
 
 pub record IsFirstMissing (count : ℕ) (args : List ArgLine) (n : ℕ) : Type 0 where
   pub within : n < count
-  pub missing : line_for n args ≡ None
+  pub missing : given_to n args ≡ None
   pub before : AreGiven n args
 
 abbrev pub FindsMissing : ℕ → List ArgLine → Option ℕ → Type 0
@@ -133,8 +191,8 @@ sooner None count n = if nat_lt n count then None else Some n
 
 -- a launch that breaks no rule keeps the rules
 abbrev pub UnbrokenIsKept : Type 0
-UnbrokenIsKept = (l : LoadedLaunch) (ps : List Parameter) → IsLaunch l → ((r : BrokenRule) → Breaks l (Some ps) r → ⊥) → KeepsRules ps l
+UnbrokenIsKept = (l : LoadedLaunch) (t : Taken) → ((r : BrokenRule) → Breaks l (Some t) r → ⊥) → KeepsRules t l
 
 -- and one that keeps the rules breaks none
 abbrev pub KeptIsUnbroken : Type 0
-KeptIsUnbroken = (l : LoadedLaunch) (ps : List Parameter) → KeepsRules ps l → (r : BrokenRule) → Breaks l (Some ps) r → ⊥
+KeptIsUnbroken = (l : LoadedLaunch) (t : Taken) → KeepsRules t l → (r : BrokenRule) → Breaks l (Some t) r → ⊥

@@ -1,17 +1,17 @@
 //! From a checked module and a launch to where the run begins.
 
-ghost use Rattle.std.specs.Prelude.{◌≡◌, ◌<◌, ◌^◌, List, length, Some, [], ◌++◌, IfOk, IfErr, OnOk, option_to_list};
+ghost use Rattle.std.specs.Prelude.{◌≡◌, ℕ, ◌<◌, ◌^◌, List, length, Some, [], ◌++◌, IfOk, IfErr, OnOk, option_to_list};
 ghost use Rattle.launch_text.specs.Readable.{IsReadable};
-ghost use Rattle.launch_text.specs.Rules.{loaded, buffer_given};
-ghost use Rattle.spv_module.specs.Options.{for_each};
+ghost use Rattle.launch_text.specs.Rules.{loaded, buffer_given, broken, Taken};
 ghost use Rattle.spv_reflect.specs.Reflection.{rows_of};
-ghost use Rattle.vk_bind.specs.Answers.{parameters_from, start_from, bounds_from, specs_from, rule_from, IsStopOf, IsAccepted, Keeps, NoneBreaks, Decides, Suits, UnbrokenIsKept, KeptIsUnbroken};
-ghost use Rattle.vk_bind.specs.Binding.{parameter_of, BindsTo, takes_in, bound_by, bound_from, specialised_by};
+ghost use Rattle.vk_bind.specs.Answers.{taken_from, start_from, bounds_from, specs_from, rule_from, IsStopOf, IsAccepted, Keeps, Decides, FindsWhole, Suits, UnbrokenIsKept, KeptIsUnbroken};
+ghost use Rattle.vk_bind.specs.Binding.{taken_of, required_by, BindsTo, takes_in, bound_by, bound_from, specialised_by};
 ghost use Rattle.launch_text.specs.WorkItems.{sizes_of};
 
 use crate::parameters::{Parameter, kernel_row, parameters};
 use crate::rules::{
-    fills_grid, first_of_other_kind, first_of_other_size, first_unmatched, is_within_limits,
+    ArgumentRule, fills_grid, first_breaking, first_of_other_size, first_unmatched,
+    is_as_required, is_too_much_local, is_within_limits,
 };
 use crate::start::{BindStop, Bound, Spec, Start};
 use clv_place::{List, NoMemory, Text};
@@ -74,7 +74,6 @@ fn accepted<'a>(
     requires few { length body.now < 2 ^ 32 }
     requires rows { rows_of body.now ≡ Some reflection.now }
     requires readable { IsReadable launch.now }
-    requires loaded { length buffers.now ≡ length launch.now.files }
     ensures ok { IfOk result (λ row. IsAccepted body.now reflection.now (loaded launch.now buffers.now) row.now) }
     ensures fault { IfErr result (IsStopOf (loaded launch.now buffers.now) (takes_in body.now launch.now.kernel)) }
 {
@@ -90,7 +89,7 @@ fn accepted<'a>(
     }
 }
 
-/// Whether a launch keeps all rules on what the arguments of a kernel take.
+/// Whether a launch keeps all rules on what a kernel takes.
 pub fn judged(
     alloc: Global,
     body: &[Inst],
@@ -100,15 +99,16 @@ pub fn judged(
 ) -> Result<(), BindStop>
     requires few { length row.now.args < 2 ^ 32 }
     requires readable { IsReadable launch.now }
-    requires loaded { length buffers.now ≡ length launch.now.files }
     ensures ok { OnOk result (Suits body.now row.now (loaded launch.now buffers.now)) }
-    ensures fault { IfErr result (IsStopOf (loaded launch.now buffers.now) (for_each (parameter_of body.now) row.now.args)) }
+    ensures fault { IfErr result (IsStopOf (loaded launch.now buffers.now) (taken_of body.now row.now)) }
 {
     match parameters(alloc, body, row.args.as_slice())? {
-        Some(parameters) => match least_broken(parameters.as_slice(), launch, buffers) {
-            Some(Broken { number, arg }) => Err(BindStop::Fault { number, arg }),
-            None => Ok(()),
-        },
+        Some(parameters) => {
+            match least_broken(parameters.as_slice(), row.required, launch, buffers) {
+                Some(Broken { number, arg }) => Err(BindStop::Fault { number, arg }),
+                None => Ok(()),
+            }
+        }
         None => Err(BindStop::Fault {
             number: 10,
             arg: None,
@@ -117,77 +117,63 @@ pub fn judged(
 }
 
 // The least rule that a launch breaks, at the least argument.
-fn least_broken(parameters: &[Parameter], launch: &Launch, buffers: &[Text]) -> Option<Broken>
+fn least_broken(
+    parameters: &[Parameter],
+    required: Option<[u32; 3]>,
+    launch: &Launch,
+    buffers: &[Text],
+) -> Option<Broken>
     requires few { length parameters.now < 2 ^ 32 }
     requires readable { IsReadable launch.now }
-    requires loaded { length buffers.now ≡ length launch.now.files }
-    ensures { Decides (loaded launch.now buffers.now) (parameters_from parameters.now) result }
+    ensures { Decides (loaded launch.now buffers.now) (taken_from parameters.now required) result }
 {
-    match first_unmatched(parameters, launch) {
-        Some(arg) => Some(Broken {
-            number: 11,
-            arg: Some(arg),
-        }),
-        None => least_from_kinds(parameters, launch, buffers),
+    if let Some(ordinal) = first_unmatched(parameters, launch) {
+        return Some(at(11, ordinal));
+    }
+    if let Some(ordinal) = first_breaking(ArgumentRule::Kind, parameters, launch) {
+        return Some(at(12, ordinal));
+    }
+    if let Some(ordinal) = first_of_other_size(parameters, launch, buffers) {
+        return Some(at(14, ordinal));
+    }
+    if let Some(ordinal) = first_breaking(ArgumentRule::Elements, parameters, launch) {
+        return Some(at(15, ordinal));
+    }
+    if let Some(ordinal) = first_breaking(ArgumentRule::Restricted, parameters, launch) {
+        return Some(at(16, ordinal));
+    }
+    match broken_whole(required, launch) {
+        Some(number) => Some(Broken { number, arg: None }),
+        None => None,
     }
 }
 
-// The same, where rule 11 isn't broken.
-fn least_from_kinds(parameters: &[Parameter], launch: &Launch, buffers: &[Text]) -> Option<Broken>
-    requires few { length parameters.now < 2 ^ 32 }
-    requires readable { IsReadable launch.now }
-    requires loaded { length buffers.now ≡ length launch.now.files }
-    requires given { NoneBreaks (loaded launch.now buffers.now) (parameters_from parameters.now) 11 }
-    ensures { Decides (loaded launch.now buffers.now) (parameters_from parameters.now) result }
+// A rule that an argument breaks.
+fn at(number: u8, ordinal: u32) -> Broken
+    ensures { rule_from result ≡ broken number (Some ordinal) }
 {
-    match first_of_other_kind(parameters, launch) {
-        Some(arg) => Some(Broken {
-            number: 12,
-            arg: Some(arg),
-        }),
-        None => least_from_sizes(parameters, launch, buffers),
+    Broken {
+        number,
+        arg: Some(ordinal),
     }
 }
 
-// The same, where rule 12 isn't broken either.
-fn least_from_sizes(parameters: &[Parameter], launch: &Launch, buffers: &[Text]) -> Option<Broken>
-    requires few { length parameters.now < 2 ^ 32 }
+// The least rule from 18 on that the launch as a whole breaks.
+fn broken_whole(required: Option<[u32; 3]>, launch: &Launch) -> Option<u8>
     requires readable { IsReadable launch.now }
-    requires loaded { length buffers.now ≡ length launch.now.files }
-    requires given { NoneBreaks (loaded launch.now buffers.now) (parameters_from parameters.now) 11 }
-    requires kinds { NoneBreaks (loaded launch.now buffers.now) (parameters_from parameters.now) 12 }
-    ensures { Decides (loaded launch.now buffers.now) (parameters_from parameters.now) result }
-{
-    match first_of_other_size(parameters, launch, buffers) {
-        Some(arg) => Some(Broken {
-            number: 14,
-            arg: Some(arg),
-        }),
-        None => least_from_grid(parameters, launch, buffers),
-    }
-}
-
-// The same, where no argument breaks a rule.
-fn least_from_grid(parameters: &[Parameter], launch: &Launch, buffers: &[Text]) -> Option<Broken>
-    requires few { length parameters.now < 2 ^ 32 }
-    requires readable { IsReadable launch.now }
-    requires loaded { length buffers.now ≡ length launch.now.files }
-    requires given { NoneBreaks (loaded launch.now buffers.now) (parameters_from parameters.now) 11 }
-    requires kinds { NoneBreaks (loaded launch.now buffers.now) (parameters_from parameters.now) 12 }
-    requires sizes { NoneBreaks (loaded launch.now buffers.now) (parameters_from parameters.now) 14 }
-    ensures { Decides (loaded launch.now buffers.now) (parameters_from parameters.now) result }
+    ensures { (buffers : List (List ℕ)) (t : Taken) → t.required ≡ required_by required → FindsWhole (loaded launch.now buffers) t result }
 {
     if !fills_grid(launch) {
-        return Some(Broken {
-            number: 18,
-            arg: None,
-        });
+        return Some(18);
     }
     if !is_within_limits(launch) {
-        return Some(Broken {
-            number: 19,
-            arg: None,
-        });
+        return Some(19);
+    }
+    if !is_as_required(required, launch.local) {
+        return Some(20);
+    }
+    if is_too_much_local(launch.args.as_slice()) {
+        return Some(21);
     }
     None
 }

@@ -3,6 +3,7 @@
 #![tactic(auto)]
 
 pub mod binding;
+mod elements;
 pub mod parameters;
 mod rules;
 pub mod start;

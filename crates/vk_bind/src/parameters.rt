@@ -3,21 +3,25 @@
 ghost use Rattle.std.specs.Prelude.{◌≡◌, IfOk, option_map, option_copied};
 ghost use Rattle.spv_module.specs.Interface.{variables_in};
 ghost use Rattle.spv_module.specs.Options.{for_each};
-ghost use Rattle.vk_bind.specs.Answers.{parameter_from, parameters_from};
-ghost use Rattle.vk_bind.specs.Binding.{variable_among, stride_of, parameter_of, kernel_among};
+ghost use Rattle.vk_bind.specs.Answers.{parameter_from, parameters_from, elements_by};
+ghost use Rattle.vk_bind.specs.Binding.{variable_among, array_of, pointer_to, parameter_of, kernel_among};
 
+use crate::elements::{Scalar, element, scalars};
 use clv_place::{List, NoMemory};
 use spv_module::Inst;
 use spv_module::enumerant::decoration;
-use spv_module::lookup::{decoration_number, is_at, pointee};
+use spv_module::lookup::{decoration_number, is_at, is_decorated, pointee};
 use spv_module::reading::Said;
 use spv_reflect::{ArgKindRow, ArgRow, KernelRow};
 use std::alloc::Global;
 
-/// A pointer into global memory, to elements that stand so many bytes apart.
-#[derive(Clone, Copy, PartialEq, Eq, Debug)]
+/// A pointer into a buffer, to elements that stand so many bytes apart and have these scalars. It may be
+/// `restrict`: nothing else reaches what it points to.
+#[derive(Drop)]
 pub struct Parameter {
     pub stride: u32,
+    pub scalars: List<Scalar>,
+    pub restricted: bool,
 }
 
 /// The row of the kernel of a name: the first of that name.
@@ -46,7 +50,7 @@ pub fn parameters(
     let mut found = List::new(alloc);
     let mut rest = rows;
     while let [row, others @ ..] = rest {
-        match taken_by(body, row) {
+        match taken_by(alloc, body, row)? {
             Some(parameter) => found.push(parameter)?,
             None => return Ok(None),
         }
@@ -56,16 +60,29 @@ pub fn parameters(
 }
 
 // What an argument takes: the elements of the variable that its row names.
-fn taken_by(body: &[Inst], row: &ArgRow) -> Option<Parameter>
-    ensures { option_map parameter_from result ≡ parameter_of body.now row.now }
+fn taken_by(alloc: Global, body: &[Inst], row: &ArgRow) -> Result<Option<Parameter>, NoMemory>
+    ensures { IfOk result (λ found. option_map parameter_from found ≡ parameter_of body.now row.now) }
 {
     match row.kind {
-        ArgKindRow::Buffer { set, binding } => {
-            let variable = variable_at(body, set, binding)?;
-            let stride = stride(body, variable)?;
-            Some(Parameter { stride })
-        }
-        _ => None,
+        ArgKindRow::Buffer { set, binding } => match variable_at(body, set, binding) {
+            Some(variable) => pointer_to(alloc, body, variable),
+            None => Ok(None),
+        },
+        _ => Ok(None),
+    }
+}
+
+// What a buffer variable takes. None where it has no array of elements.
+fn pointer_to(alloc: Global, body: &[Inst], variable: u32) -> Result<Option<Parameter>, NoMemory>
+    ensures { IfOk result (λ found. option_map parameter_from found ≡ pointer_to body.now variable) }
+{
+    match elements(body, variable) {
+        Some((stride, element)) => Ok(Some(Parameter {
+            stride,
+            scalars: scalars(alloc, body, element)?,
+            restricted: is_decorated(body, variable, decoration::RESTRICT),
+        })),
+        None => Ok(None),
     }
 }
 
@@ -85,12 +102,22 @@ fn variable_at(body: &[Inst], set: u32, binding: u32) -> Option<u32>
     None
 }
 
-// The bytes from one element of a buffer variable to the next (SPIR-V 3.20, ArrayStride).
-fn stride(body: &[Inst], variable: u32) -> Option<u32>
-    ensures { result ≡ stride_of body.now variable }
+// The bytes from one element of a buffer variable to the next (SPIR-V 1.3, 3.20, ArrayStride), and the
+// type of its elements.
+fn elements(body: &[Inst], variable: u32) -> Option<(u32, u32)>
+    ensures { result ≡ elements_by body.now variable }
+{
+    let array = array(body, variable)?;
+    let stride = decoration_number(body, array, decoration::ARRAY_STRIDE)?;
+    let element = element(body, array)?;
+    Some((stride, element))
+}
+
+// The array of a buffer variable.
+fn array(body: &[Inst], variable: u32) -> Option<u32>
+    ensures { result ≡ array_of body.now variable }
 {
     let pointer = pointee(body, variable)?;
     let block = pointee(body, pointer)?;
-    let array = pointee(body, block)?;
-    decoration_number(body, array, decoration::ARRAY_STRIDE)
+    pointee(body, block)
 }

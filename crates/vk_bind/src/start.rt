@@ -46,9 +46,16 @@ pub struct Spec {
 /// 10. The module has no kernel of that name.
 /// 11. An argument without a line, or a line past the arguments.
 /// 12. An argument of another kind.
-/// 14. A buffer that isn't a positive multiple of the size of its elements, or is over 16 MiB.
+/// 14. A buffer that isn't a positive multiple of the size of its elements, or is over 16 MiB, or at which
+///     all buffers together go over 64 MiB.
+/// 15. One buffer for two arguments with other elements.
+/// 16. One buffer for two arguments, of which one is `restrict`.
 /// 18. Work-groups that don't fill the grid.
 /// 19. A work-group of over 1,024 work-items, or a grid of over 16,384.
+/// 20. Another size of a work-group than the kernel requires.
+/// 21. Over 32,768 bytes of local memory in the arguments.
+///
+/// Rules 13 and 17 are on plain and local arguments, which no module has so far.
 #[derive(Clone, Copy, PartialEq, Eq, Debug)]
 pub enum BindStop {
     Fault { number: u8, arg: Option<u32> },

@@ -1,12 +1,16 @@
-use Rattle.std.proofs.Common.{arith}
-use Rattle.vk_bind.proofs.Breaking.{none_more, first_here, sizes_end}
+use Rattle.std.proofs.Common.{None, arith}
+use Rattle.launch_text.specs.Rules.{loaded}
+use Rattle.vk_bind.proofs.Breaking.{summed_more, sizes_end}
 use Rattle.vk_bind.proofs.rules.first_of_other_size.Goals as goal
 
-pub returns-then-not-keeps_size : goal.returns-then-not-keeps_size
-returns-then-not-keeps_size c = first_here _ _ 14 _ (c.loop-ordinal.invariant) (c.if-not-keeps_size.ensures)
+pub sum_after-requires-clause-sum : goal.sum_after-requires-clause-sum
+sum_after-requires-clause-sum c = (c.loop-ordinal.invariant None).is
+
+pub sum_after-requires-clause-within : goal.sum_after-requires-clause-within
+sum_after-requires-clause-within c = (c.loop-ordinal.invariant None).within
 
 pub loop-ordinal-preserved : goal.loop-ordinal-preserved
-loop-ordinal-preserved c = none_more _ _ 14 _ (c.loop-ordinal.invariant) (c.if-not-keeps_size.ensures)
+loop-ordinal-preserved c = λ required. summed_more _ _ _ _ (c.loop-ordinal.invariant required).none (c.in-Some.ensures required)
 
 pub returns : goal.returns
-returns c = sizes_end _ _ _ (c.loop-ordinal.invariant) (omega arith)
+returns c = λ required. sizes_end (loaded c.args.launch.now c.args.buffers.now) c.args.parameters.now required _ (c.loop-ordinal.invariant required).none (omega arith)
