@@ -1,0 +1,4 @@
+pub mod Bytes
+pub mod Events
+pub mod Operators
+pub mod SharedMemory

@@ -1,0 +1,12 @@
+pub mod Code
+pub mod Values
+pub mod Operations
+pub mod Tasks
+pub mod Expressions
+pub mod Statements
+pub mod States
+pub mod Effects
+pub mod Items
+pub mod ItemRuns
+pub mod Source
+pub mod Fits
