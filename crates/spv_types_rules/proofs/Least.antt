@@ -1,22 +1,18 @@
 -- Where a rule is broken, there is a least broken one.
-use Rattle.std.proofs.Common.{◌≡◌, ℕ, zero, suc, ◌+◌, ◌<◌, ◌≤◌, Bool, true, false, List, [], ◌∷◌, length, refl, sym, subst, ap, ◌∙◌, inl, inr, arith, eqb-true, eq-eqb, ltb-true}
+use Rattle.std.proofs.Common.{◌≡◌, ℕ, zero, suc, ◌+◌, ◌<◌, ◌≤◌, Bool, true, false, List, [], ◌∷◌, Option, Some, None, cond, length, refl, sym, subst, ap, ◌∙◌, inl, inr, arith, eqb-true, eq-eqb, ltb-true}
 use Rattle.std.specs.Prelude.{◌&&◌, ◌||◌, not, ◌⊎◌, All, Contains, ◌==◌, nat_lt}
-use Rattle.std.proofs.lemmas.Bool.{cases_lt, cases_order, cases_Bool, and_cases}
+use Rattle.std.proofs.lemmas.Bool.{cases_lt, cases_order, and_cases}
 use Rattle.std.proofs.lemmas.List.Elements.{All-nil, All-cons, All-head, All-tail, All-weaker, All-contains, All-contains_itself}
 use Rattle.std.proofs.lemmas.List.Sums.{AllPass-from_list_all}
 use Rattle.spv_module.specs.declared.module.Inst.{Inst}
 use Rattle.spv_module.specs.declared.op.TheConstants as op
-use Rattle.spv_types_rules.specs.Lines.{Line, Whole, Spot, only, on, whole, lines_of, onto, has_op, to_end}
-use Rattle.spv_types_rules.specs.Rules.{Rule, rule, rules, spot, IsAt, Breaks, by_line, by_blocks, Lacks, by_whole, all_keep, IsIntact, first_word, IsBrokenAt, at_line, at_none, HasLeastBroken, SomeLeastBroken}
+use Rattle.spv_types_rules.specs.Lines.{Line, Whole, Spot, only, whole, lines_of, onto, has_op, to_end}
+use Rattle.spv_types_rules.proofs.Breaking.{structure_test, structure_rule, tests_by, keeps_number, has_number, line_from, Break, break_by, break_of, or_next, first_from, least_broken}
+use Rattle.spv_types_rules.specs.Rules.{Rule, rules, spot, IsAt, Breaks, by_line, by_blocks, Lacks, by_whole, all_keep, IsIntact, first_word, IsBrokenAt, at_line, at_none, IsLeastBroken, HasLeastBroken, SomeLeastBroken}
 use Rattle.spv_types_rules.proofs.Structured.{is_structured, structured_passes, passes_structured}
 use Rattle.spv_types_rules.proofs.Unbroken.{left, right, never, kept_at, is_function}
 
 -- ---- the rules of a number
-
--- whether the rules of a number among some pass a test
-abbrev tests_by : (Rule → Bool) → List Rule → ℕ → Bool
-tests_by test [] n = true
-tests_by test (r ∷ rs) n = (not (r.number == n) || test r) && tests_by test rs n
 
 abbrev Passes : (Rule → Bool) → ℕ → Rule → Type 0
 Passes test n r = r.number ≡ n → test r ≡ true
@@ -50,19 +46,6 @@ module _ (test : Rule → Bool) (n : ℕ) where
   culprit P [] p h = let f : true ≡ false = h in cc
   culprit P (r ∷ rs) p h = culprit_in P r rs p (and_cases (not (r.number == n) || test r) (tests_by test rs n) h) (culprit P rs (All-tail P r rs p))
 
--- rule 35 by the test of sequences
-abbrev structure_test : Spot → Bool
-structure_test s = is_structured (to_end s.after)
-
-abbrev structure_rule : Rule
-structure_rule = rule 35 (on op.FUNCTION structure_test)
-
-abbrev keeps_number : ℕ → Spot → Bool
-keeps_number n s = tests_by (λ r. r.keeps s) (structure_rule ∷ rules) n
-
-abbrev has_number : ℕ → Whole → Bool
-has_number n w = tests_by (λ r. r.has w) rules n
-
 -- ---- the first line that breaks a rule
 
 not_true : (x : Bool) → (x ≡ true → ⊥) → x ≡ false
@@ -76,6 +59,10 @@ tail_of (_ ∷ ls) = ls
 abbrev head_of : Line → List Line → Line
 head_of l [] = l
 head_of l (m ∷ _) = m
+
+abbrev or_zero : ℕ → Option ℕ → ℕ
+or_zero i None = i
+or_zero i (Some j) = j
 
 -- lines behind as many others are the same in the same lines
 same_onto : (b c xs ys : List Line) → onto b xs ≡ onto c ys → length b ≡ length c → (b ≡ c) × (xs ≡ ys)
@@ -95,11 +82,12 @@ module _ (keeps : Spot → Bool) (w : Whole) (all : List Line) where
   abbrev Earlier : ℕ → Type 0
   Earlier n = (b : List Line) (l : Line) (a : List Line) → all ≡ onto b (l ∷ a) → length b < n → keeps (spot_at b l a) ≡ true
 
-  record IsFirst : Type 0 where
+  record IsFirst (i : ℕ) : Type 0 where
     before : List Line
     here : Line
     after : List Line
     parts : all ≡ onto before (here ∷ after)
+    place : length before ≡ i
     fails : keeps (spot_at before here after) ≡ false
     earlier : Earlier (length before)
 
@@ -115,15 +103,24 @@ module _ (keeps : Spot → Bool) (w : Whole) (all : List Line) where
   earlier_more : (b : List Line) (l : Line) (a : List Line) → all ≡ onto b (l ∷ a) → Earlier (length b) → keeps (spot_at b l a) ≡ true → Earlier (suc (length b))
   earlier_more b l a e h k c m d f g = earlier_by b c l m a d e h k f g (cases_lt (length c) (length b))
 
-  first_by : (x : Bool) (b : List Line) (l : Line) (a : List Line) → keeps (spot_at b l a) ≡ x → all ≡ onto b (l ∷ a) → Earlier (length b) → (keeps (spot_at b l a) ≡ true → IsFirst) → IsFirst
-  first_by true b l a k e h more = more k
-  first_by false b l a k e h more = record { before = b; here = l; after = a; parts = e; fails = k; earlier = h }
+  some_same : (i j : ℕ) → Some i ≡ Some j → i ≡ j
+  some_same i j e = ap (or_zero i) e
 
-  first_in : (b ls : List Line) → all ≡ onto b ls → Earlier (length b) → all_keep keeps w b ls ≡ false → IsFirst
-  first_in b [] e h f = let g : true ≡ false = f in cc
-  first_in b (l ∷ a) e h f =
-      first_by (keeps (spot_at b l a)) b l a refl e h
-      (λ k. first_in (l ∷ b) a e (earlier_more b l a e h k) (subst (λ (x : Bool). x && all_keep keeps w (l ∷ b) a ≡ false) k f))
+  first_by : (x : Bool) (i : ℕ) (b : List Line) (l : Line) (a : List Line) → keeps (spot_at b l a) ≡ x → all ≡ onto b (l ∷ a) → Earlier (length b) → cond x (line_from keeps w (l ∷ b) (suc (length b)) a) (Some (length b)) ≡ Some i → (keeps (spot_at b l a) ≡ true → line_from keeps w (l ∷ b) (suc (length b)) a ≡ Some i → IsFirst i) → IsFirst i
+  first_by true i b l a k e h f more = more k f
+  first_by false i b l a k e h f more = record { before = b; here = l; after = a; parts = e; place = some_same (length b) i f; fails = k; earlier = h }
+
+  first_in : (i : ℕ) (b ls : List Line) → all ≡ onto b ls → Earlier (length b) → line_from keeps w b (length b) ls ≡ Some i → IsFirst i
+  first_in i b [] e h f = let g : None ≡ Some i = f in cc
+  first_in i b (l ∷ a) e h f = first_by (keeps (spot_at b l a)) i b l a refl e h f (λ k g. first_in i (l ∷ b) a e (earlier_more b l a e h k) g)
+
+  none_by : (x : Bool) (b : List Line) (l : Line) (a : List Line) → cond x (line_from keeps w (l ∷ b) (suc (length b)) a) (Some (length b)) ≡ None → (line_from keeps w (l ∷ b) (suc (length b)) a ≡ None → all_keep keeps w (l ∷ b) a ≡ true) → x && all_keep keeps w (l ∷ b) a ≡ true
+  none_by true b l a f more = more f
+  none_by false b l a f more = let g : Some (length b) ≡ None = f in cc
+
+  none_in : (b ls : List Line) → line_from keeps w b (length b) ls ≡ None → all_keep keeps w b ls ≡ true
+  none_in b [] f = refl
+  none_in b (l ∷ a) f = none_by (keeps (spot_at b l a)) b l a f (none_in (l ∷ b) a)
 
 -- ---- a module
 
@@ -191,59 +188,63 @@ module _ (body : List Inst) where
       subst (λ (n : ℕ). Breaks body n (length b)) (ap (λ (r : Rule). r.number) (sym q) ∙ p)
       (by_blocks (length b) b l a (record { parts = e; at = refl }) (eqb-true l.op op.FUNCTION u.0) (λ s. never (is_structured (to_end a)) (structured_passes (to_end a) s) u.1))
 
-  abbrev First : ℕ → Type 0
-  First n = IsFirst (keeps_number n) (whole lines) lines
+  abbrev First : ℕ → ℕ → Type 0
+  First n i = IsFirst (keeps_number n) (whole lines) lines i
 
-  breaks_first : (n : ℕ) (f : First n) → Breaks body n (length f.before)
-  breaks_first n f =
+  breaks_first : (n i : ℕ) (f : First n i) → Breaks body n i
+  breaks_first n i f =
       let c = culprit (λ r. r.keeps (here f.before f.here f.after)) n IsKnown (structure_rule ∷ rules) all_known f.fails in
-      breaks_by n f.before f.here f.after f.parts c.rule c.known c.number c.fails
+      subst (Breaks body n) f.place (breaks_by n f.before f.here f.after f.parts c.rule c.known c.number c.fails)
 
-  none_earlier : (n : ℕ) (f : First n) (j : ℕ) → j < length f.before → Breaks body n j → ⊥
-  none_earlier n f j h b =
+  none_earlier : (n i : ℕ) (f : First n i) (j : ℕ) → j < i → Breaks body n j → ⊥
+  none_earlier n i f j h b =
       let g = fails_at n j b in
       let p : length g.before ≡ j = g.at.at in
+      let q : length f.before ≡ i = f.place in
       never (keeps_number n (here g.before g.line g.after)) (f.earlier g.before g.line g.after g.at.parts (omega arith)) g.fails
 
-  record IsNamed (n : ℕ) : Type 0 where
-    word : ℕ
-    broken : IsBrokenAt body n word
+  -- what it says that a rule is broken, or isn't
+  abbrev pub word_by : Option ℕ → ℕ
+  word_by None = 0
+  word_by (Some i) = first_word body i
 
-  broken_line : (n : ℕ) → all_keep (keeps_number n) (whole lines) [] lines ≡ false → IsNamed n
-  broken_line n k =
-      let f = first_in (keeps_number n) (whole lines) lines [] lines refl (λ b l a e h. absurd (omega arith)) k in
-      record { word = first_word body (length f.before); broken = at_line (length f.before) (breaks_first n f) (none_earlier n f) }
+  abbrev Judges : ℕ → Option Break → Type 0
+  Judges n None = IsIntact body n
+  Judges n (Some b) = (n ≡ b.number) × IsBrokenAt body n (word_by b.line)
 
-  broken_whole : (n : ℕ) → all_keep (keeps_number n) (whole lines) [] lines ≡ true → has_number n (whole lines) ≡ false → IsNamed n
-  broken_whole n k h =
+  judge_by : (n : ℕ) (o : Option ℕ) (x : Bool) → line_from (keeps_number n) (whole lines) [] 0 lines ≡ o → has_number n (whole lines) ≡ x → Judges n (break_by n o x)
+  judge_by n (Some i) x f h =
+      let g = first_in (keeps_number n) (whole lines) lines i [] lines refl (λ b l a e h. absurd (omega arith)) f in
+      (refl, at_line i (breaks_first n i g) (none_earlier n i g))
+  judge_by n None true f h = record { lines = intact_lines n (none_in (keeps_number n) (whole lines) lines [] lines f); whole = intact_whole n h }
+  judge_by n None false f h =
       let c = culprit (λ r. r.has (whole lines)) n (Contains rules) rules (All-contains_itself rules) h in
-      record { word = 0; broken = at_none (subst (Lacks body) c.number (by_whole c.rule c.known c.fails)) (intact_lines n k) }
+      (refl, at_none (subst (Lacks body) c.number (by_whole c.rule c.known c.fails)) (intact_lines n (none_in (keeps_number n) (whole lines) lines [] lines f)))
 
-  judged_by : (n : ℕ) → ((all_keep (keeps_number n) (whole lines) [] lines ≡ true) ⊎ (all_keep (keeps_number n) (whole lines) [] lines ≡ false)) → ((has_number n (whole lines) ≡ true) ⊎ (has_number n (whole lines) ≡ false)) → IsNamed n ⊎ IsIntact body n
-  judged_by n (inr k) h = inl (broken_line n k)
-  judged_by n (inl k) (inr h) = inl (broken_whole n k h)
-  judged_by n (inl k) (inl h) = inr (record { lines = intact_lines n k; whole = intact_whole n h })
-
-  judged : (n : ℕ) → IsNamed n ⊎ IsIntact body n
-  judged n = judged_by n (cases_Bool (all_keep (keeps_number n) (whole lines) [] lines)) (cases_Bool (has_number n (whole lines)))
+  judge : (n : ℕ) → Judges n (break_of (whole lines) n)
+  judge n = judge_by n (line_from (keeps_number n) (whole lines) [] 0 lines) (has_number n (whole lines)) refl refl
 
   -- ---- the least, of the numbers below a bound
 
   abbrev AreIntact : ℕ → Type 0
   AreIntact n = (m : ℕ) → m < n → IsIntact body m
 
+  abbrev Tells : Option Break → Type 0
+  Tells None = AreIntact 45
+  Tells (Some b) = IsLeastBroken body b.number (word_by b.line)
+
   intact_more : (n m : ℕ) → AreIntact n → IsIntact body n → m < suc n → ((m ≡ n) ⊎ ((m < n) ⊎ (n < m))) → IsIntact body m
   intact_more n m h k p (inl e) = subst (IsIntact body) (sym e) k
   intact_more n m h k p (inr (inl q)) = h m q
   intact_more n m h k p (inr (inr q)) = absurd (omega arith)
 
-  search_by : (n : ℕ) → AreIntact n → (IsNamed n ⊎ IsIntact body n) → (AreIntact (suc n) → HasLeastBroken body ⊎ ((m : ℕ) → m < 45 → IsIntact body m)) → HasLeastBroken body ⊎ ((m : ℕ) → m < 45 → IsIntact body m)
-  search_by n h (inl b) more = inl (record { number = n; word = b.word; least = record { broken = b.broken; least = h } })
-  search_by n h (inr k) more = more (λ m p. intact_more n m h k p (cases_order m n))
+  search_by : (n : ℕ) (o next : Option Break) → AreIntact n → Judges n o → (AreIntact (suc n) → Tells next) → Tells (or_next o next)
+  search_by n None next h k more = more (λ m p. intact_more n m h k p (cases_order m n))
+  search_by n (Some b) next h k more = subst (λ (m : ℕ). IsLeastBroken body m (word_by b.line)) k.0 (record { broken = k.1; least = h })
 
-  search_from : (left n : ℕ) → n + left ≡ 45 → AreIntact n → HasLeastBroken body ⊎ ((m : ℕ) → m < 45 → IsIntact body m)
-  search_from zero n e h = inr (λ m p. h m (omega arith))
-  search_from (suc left) n e h = search_by n h (judged n) (search_from left (suc n) (omega arith))
+  search : (left n : ℕ) → n + left ≡ 45 → AreIntact n → Tells (first_from left n (whole lines))
+  search zero n e h = λ m p. h m (omega arith)
+  search (suc left) n e h = search_by n (break_of (whole lines) n) (first_from left (suc n) (whole lines)) h (judge n) (search left (suc n) (omega arith))
 
   -- no rule has a greater number
   abbrev IsLow : Rule → Type 0
@@ -259,12 +260,16 @@ module _ (body : List Inst) where
   low_whole : (n : ℕ) → Lacks body n → n < 45
   low_whole _ (by_whole r c f) = ltb-true r.number 45 (All-contains IsLow rules r all_low c)
 
-  all_intact : ((m : ℕ) → m < 45 → IsIntact body m) → (n : ℕ) → IsIntact body n
+  all_intact : AreIntact 45 → (n : ℕ) → IsIntact body n
   all_intact h n = record { lines = λ i b. (h n (low_line n i b)).lines i b; whole = λ l. (h n (low_whole n l)).whole l }
 
-  found : (HasLeastBroken body ⊎ ((m : ℕ) → m < 45 → IsIntact body m)) → HasLeastBroken body ⊎ ((n : ℕ) → IsIntact body n)
-  found (inl b) = inl b
-  found (inr h) = inr (all_intact h)
+  found : (o : Option Break) → Tells o → HasLeastBroken body ⊎ ((n : ℕ) → IsIntact body n)
+  found None h = inr (all_intact h)
+  found (Some b) h = inl (record { number = b.number; word = word_by b.line; least = h })
+
+  -- what is computed is the least broken rule
+  pub least_is : (b : Break) → least_broken body ≡ Some b → IsLeastBroken body b.number (word_by b.line)
+  least_is b e = subst Tells e (search 45 0 refl (λ m h. absurd (omega arith)))
 
 pub some_least_broken : SomeLeastBroken
-some_least_broken body = found body (search_from body 45 0 refl (λ m h. absurd (omega arith)))
+some_least_broken body = found body (least_broken body) (search body 45 0 refl (λ m h. absurd (omega arith)))

@@ -121,6 +121,7 @@ ValidIsUnbroken = (body : List Inst) → (IsValid body → IsUnbroken body) × (
 abbrev pub OneLeastBroken : Type 0
 OneLeastBroken = (body : List Inst) (n m word other : ℕ) → IsLeastBroken body n word → IsLeastBroken body m other → (n ≡ m) × (word ≡ other)
 
+-- some rule is the least broken
 pub record HasLeastBroken (body : List Inst) : Type 0 where
   pub number : ℕ
   pub word : ℕ

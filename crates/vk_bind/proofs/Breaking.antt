@@ -13,7 +13,7 @@ use Rattle.launch_text.specs.Rules.{LoadedLaunch, Parameter, PlainValue, Taken, 
 use Rattle.vk_bind.specs.declared.parameters.Parameter.{Parameter as Found}
 use Rattle.vk_bind.specs.declared.rules.ArgumentRule.{ArgumentRule}
 use Rattle.vk_bind.specs.declared.rules.ArgumentRule.TheVariants.{Kind, Elements, Restricted}
-use Rattle.vk_bind.specs.Answers.{parameter_from, parameters_from, taken_from, number_by, alone_both, alone_at, NoneBreaks, IsFirst, Finds, FindsWhole, NoneWhole, IsFirstWhole, AreGiven, IsFirstMissing, FindsMissing, AreWithin, IsLeastPast, FindsPast, sooner, SumAfter, IsSum, sum_within}
+use Rattle.vk_bind.specs.Answers.{parameter_from, taken_from, number_by, alone_both, alone_at, NoneBreaks, IsFirst, Finds, NoneWhole, IsFirstWhole, AreGiven, IsFirstMissing, FindsMissing, AreWithin, IsLeastPast, FindsPast, sooner, SumAfter, IsSum, sum_within}
 
 true_false : {A : Type 0} (b : Bool) → b ≡ true → b ≡ false → A
 true_false b d e = absurd (let never : true ≡ false = sym d ∙ e in cc)

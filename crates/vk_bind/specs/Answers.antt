@@ -1,5 +1,5 @@
 -- What the calls of this crate answer, in the words of the definitions.
-use Rattle.std.specs.Prelude.{◌≡◌, ℕ, suc, ◌<◌, ◌≤◌, Bool, true, false, not, ◌&&◌, ◌||◌, nat_lt, nat_le, if◌then◌else◌, List, [], ◌∷◌, length, map, Option, Some, None, Contains, slice_get}
+use Rattle.std.specs.Prelude.{◌≡◌, ℕ, suc, ◌<◌, ◌≤◌, Bool, true, false, not, ◌&&◌, ◌||◌, nat_lt, nat_le, if◌then◌else◌, List, [], length, map, Option, Some, None, Contains, slice_get}
 use Rattle.launch_text.specs.declared.launch.ArgLine.{ArgLine}
 use Rattle.launch_text.specs.Rules.{LoadedLaunch, Parameter, BufferPointer, Taken, BrokenRule, broken, given_to, is_of_kind, has_other_elements, is_restricted, has_buffer_of_another, sum_before, breaks_at, breaks_whole, Breaks, IsLeastBroken, KeepsRules}
 use Rattle.launch_text.specs.declared.launch.ArgKind.{ArgKind}

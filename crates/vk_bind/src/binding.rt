@@ -10,8 +10,8 @@ ghost use Rattle.launch_text.specs.WorkItems.{sizes_of};
 
 use crate::parameters::{Parameter, kernel_row, parameters};
 use crate::rules::{
-    ArgumentRule, fills_grid, first_breaking, first_of_other_size, first_unmatched,
-    is_as_required, is_too_much_local, is_within_limits,
+    ArgumentRule, fills_grid, first_breaking, first_of_other_size, first_unmatched, is_as_required,
+    is_too_much_local, is_within_limits,
 };
 use crate::start::{BindStop, Bound, Spec, Start};
 use clv_place::{List, NoMemory, Text};

@@ -132,11 +132,7 @@ impl ArgumentRule {
 }
 
 /// The least argument that breaks a rule.
-pub fn first_breaking(
-    rule: ArgumentRule,
-    parameters: &[Parameter],
-    launch: &Launch,
-) -> Option<u32>
+pub fn first_breaking(rule: ArgumentRule, parameters: &[Parameter], launch: &Launch) -> Option<u32>
     requires few { length parameters.now < 2 ^ 32 }
     ensures { (buffers : List (List ℕ)) (required : Option (List ℕ)) → Finds (loaded launch.now buffers) (taken_from parameters.now required) (number_by rule) result }
 {
@@ -449,9 +445,7 @@ pub fn is_as_required(required: Option<[u32; 3]>, local: [u32; 3]) -> bool
     ensures { result ≡ list_all (spec.same_sizes (sizes_of local)) (required_by required) }
 {
     match required {
-        Some(sizes) => {
-            local[0] == sizes[0] && local[1] == sizes[1] && local[2] == sizes[2]
-        }
+        Some(sizes) => { local[0] == sizes[0] && local[1] == sizes[1] && local[2] == sizes[2] }
         None => true,
     }
 }
