@@ -1,0 +1,16 @@
+pub mod Code
+pub mod Places
+pub mod Operations
+pub mod Tasks
+pub mod Expressions
+pub mod Statements
+pub mod Rooms
+pub mod States
+pub mod Effects
+pub mod Items
+pub mod ItemRuns
+pub mod Launches
+pub mod Typing
+pub mod Bodies
+pub mod Sites
+pub mod Programs
