@@ -15,7 +15,10 @@ use Rattle.obj_tree.specs.declared.object.Root.TheVariants as root
 use Rattle.obj_tree.specs.declared.object.Mark.TheVariants as mark
 use Rattle.obj_tree.specs.Places.{OneValue, OneIndex, OneOf}
 use Rattle.obj_tree.specs.Typing.{Scope, Callee, Aimed, Given, root_at, reads_at, assigned, called, at_place, built_in_from}
-use Rattle.obj_tree.specs.Programs.{leads}
+use Rattle.obj_tree.specs.declared.object.Where.{Where}
+use Rattle.obj_tree.specs.declared.program.Copy.{Copy}
+use Rattle.obj_tree.specs.declared.statement.OStmt.{OStmt}
+use Rattle.obj_tree.specs.Programs.{leads, is_own_copy, all_indices, are_places}
 use Rattle.obj_tree.specs.Sites.{all_differ}
 
 abbrev t : ℕ → TypeId
@@ -171,3 +174,34 @@ other_from = refl
 
 one_node : all_differ (node ∷ node ∷ []) ≡ false
 one_node = refl
+
+-- ---- copies and their pointers
+
+abbrev own_copy : OStmt → List TypeId → Copy
+own_copy body plain = record { kernel = 0; function = 0; pointers = (record { root = root.Argument 0; shape = mark.Index ∷ [] } ∷ []) ∷ []; plain = plain; indices = 1; privates = []; vars = []; result = void; body = body }
+
+takes_plain : (body : OStmt) → is_own_copy types 0 (ints ∷ int ∷ []) (Some (own_copy body (int ∷ []))) ≡ true
+takes_plain body = refl
+
+takes_other : (body : OStmt) → is_own_copy types 0 (ints ∷ int ∷ []) (Some (own_copy body (long ∷ []))) ≡ false
+takes_other body = refl
+
+of_another : (body : OStmt) → is_own_copy types 1 (ints ∷ int ∷ []) (Some (own_copy body (int ∷ []))) ≡ false
+of_another body = refl
+
+-- one index, and two; of two alternatives the greater number and one more
+abbrev element_of_row : Where
+element_of_row = record { root = root.Private 0; shape = mark.Index ∷ mark.Member 1 ∷ mark.Index ∷ [] }
+
+abbrev first_argument : Where
+first_argument = record { root = root.Argument 0; shape = mark.Index ∷ [] }
+
+counts_indices : all_indices ((first_argument ∷ []) ∷ (element_of_row ∷ []) ∷ []) ≡ 3
+counts_indices = refl
+
+counts_alternatives : all_indices ((first_argument ∷ element_of_row ∷ []) ∷ []) ≡ 3
+counts_alternatives = refl
+
+-- a pointer parameter names no private object but the ones that are passed
+beyond_passed : are_places scope (record { root = root.Private 3; shape = [] } ∷ []) ≡ false
+beyond_passed = refl

@@ -1,0 +1,4 @@
+pub mod Runs
+pub mod Groups
+pub mod Once
+mod Samples

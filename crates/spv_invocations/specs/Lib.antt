@@ -1,0 +1,10 @@
+pub mod Cells
+pub mod Events
+pub mod Invocation
+pub mod Operations
+pub mod Reading
+pub mod Schedule
+pub mod Start
+pub mod Types
+pub mod Values
+pub mod Worlds
