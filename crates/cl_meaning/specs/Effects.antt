@@ -4,7 +4,6 @@ use Rattle.cl_types.specs.declared.types.ClType.{ClType}
 use Rattle.cl_types.specs.declared.types.TypeId.{TypeId}
 use Rattle.cl_types.specs.declared.operator.BinOp.{BinOp}
 use Rattle.cl_types.specs.declared.builtin.Builtin.{Builtin}
-use Rattle.cl_types.specs.declared.builtin.Builtin.TheVariants as builtin
 use Rattle.cl_types.specs.declared.scalars.Scalar.{Scalar as Slot}
 use Rattle.cl_builtins.specs.declared.kind.Gentype.{Gentype}
 use Rattle.cl_builtins.specs.Kinds.{alike}
@@ -16,7 +15,7 @@ use Rattle.cl_meaning.specs.Code.{Expr, Stmts, Label, Default, Case, Sections, N
 use Rattle.cl_tree.specs.declared.event.Event.{Event}
 use Rattle.cl_tree.specs.declared.event.Event.TheVariants as event
 use Rattle.cl_common.specs.Bytes.{number_at, with_number}
-use Rattle.cl_meaning.specs.Values.{Name, Object, InShared, InPrivate, Pointer, whole_of, is_inside, Scalar, Pattern, Points, pattern_in, patterns_in, Entry, Value, Missing, Place, size_at, slots_at}
+use Rattle.cl_meaning.specs.Values.{Name, Object, InShared, InPrivate, Pointer, whole_of, is_inside, Scalar, Pattern, Points, patterns_in, Entry, Value, Place, size_at, slots_at}
 use Rattle.cl_meaning.specs.Operations.{newest, operated, Convert}
 use Rattle.cl_meaning.specs.Tasks.{Act, Reach, Pass, Operate, Variable, Recall, Point, Read, Write, Component, Enter, Leave, WorkItem, Wait, Atomic, Unless, Choose, Unset, Set, Decide, SelectSection, Test, Loop, LoopOnce, Break, Continue, Task, quiet, steps}
 use Rattle.cl_meaning.specs.Expressions.{type_of, uses, may_drop}

@@ -22,7 +22,7 @@ use Rattle.cl_common.specs.Operators.{each_from, gentype_at}
 use Rattle.cl_meaning.specs.Code.{Node, Expr, Exprs, Tree, NoExpr, AndExpr, Stmt, Stmts, NoStmt, AndStmt, Sections, Code}
 use Rattle.cl_meaning.specs.Code as code
 use Rattle.cl_tree.specs.declared.event.Shared.TheVariants as shared
-use Rattle.cl_meaning.specs.Values.{Scalar, Pattern, Entry, Value, Missing, Place, InShared, whole_of, size_at, count_at}
+use Rattle.cl_meaning.specs.Values.{Pattern, Value, Place, InShared, whole_of, size_at, count_at}
 use Rattle.cl_meaning.specs.Operations.{Operation, Push, Drop, DropSecond, Swap, Keep, Sure, Follow, Address, Part, Select, Offset, Compare, Elements, Convert, Unary, Slice, Components, Element, Vector, Fill, Apply}
 use Rattle.cl_meaning.specs.Tasks.{Act, Pass, Variable, Recall, Point, Read, Write, Component, Enter, WorkItem, Wait, Atomic, Unless, Choose, Task, Step, Quiet, step, quiet, steps, making}
 

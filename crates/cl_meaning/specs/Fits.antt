@@ -1,5 +1,5 @@
 -- What the kernels of a unit take, and which launches fit it.
-use Rattle.std.specs.Prelude.{◌≡◌, ℕ, if◌then◌else◌, List, [], ◌∷◌, map, Option, Some, None, slice_get}
+use Rattle.std.specs.Prelude.{◌≡◌, ℕ, List, [], ◌∷◌, map, Option, Some, None, slice_get}
 use Rattle.cl_types.specs.declared.types.ClType.{ClType}
 use Rattle.cl_types.specs.declared.types.TypeId.{TypeId}
 use Rattle.cl_types.specs.declared.scalars.Scalar.{Scalar as Slot}

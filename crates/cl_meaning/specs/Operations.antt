@@ -1,21 +1,17 @@
 -- What operators make of what was evaluated (C99, 6.5; OpenCL C 1.2, 6.2 to 6.4 and 6.12).
-use Rattle.std.specs.Prelude.{ℕ, zero, suc, ◌*◌, ◌%◌, ◌^◌, nat_lt, false, if◌then◌else◌, List, [], ◌∷◌, ◌++◌, map, length, reverse, take, drop, get_or, replicate, Option, Some, None, unwrap_or, slice_index, pos, ◌-ℤ◌, int_div}
+use Rattle.std.specs.Prelude.{ℕ, ◌*◌, ◌%◌, ◌^◌, nat_lt, false, if◌then◌else◌, List, [], ◌∷◌, map, length, reverse, take, drop, get_or, Option, Some, None, unwrap_or, slice_index, pos, ◌-ℤ◌, int_div}
 use Rattle.clv_num.specs.Numbers.{pattern_of}
 use Rattle.cl_types.specs.declared.types.ClType.{ClType}
-use Rattle.cl_types.specs.declared.types.Member.{Member}
 use Rattle.cl_types.specs.declared.types.TypeId.{TypeId}
 use Rattle.cl_types.specs.declared.operator.UnOp.{UnOp}
 use Rattle.cl_types.specs.declared.operator.BinOp.{BinOp}
 use Rattle.cl_types.specs.declared.operator.BinOp.TheVariants as bin
 use Rattle.cl_types.specs.declared.builtin.Builtin.{Builtin}
-use Rattle.cl_types.specs.declared.builtin.Builtin.TheVariants as builtin
 use Rattle.cl_builtins.specs.declared.kind.Gentype.{Gentype}
 use Rattle.cl_tree.specs.declared.shape.Shape.{Shape}
-use Rattle.cl_tree.specs.declared.shape.Shape.TheVariants as shape
-use Rattle.cl_tree.specs.Shapes.{shape_of, same_type, members_of}
-use Rattle.cl_tree.specs.Constants.{component_of, unaries_of, convert_to, gentype_in, joined, repeated}
+use Rattle.cl_tree.specs.Constants.{component_of, unaries_of, convert_to, joined, repeated}
 use Rattle.cl_common.specs.Operators.{each_from, given, filled, applied}
-use Rattle.cl_meaning.specs.Values.{Scalar, Pattern, Points, patterns_in, patterns, Entry, Value, Missing, Place, Pointer, Amount, Forth, Back, opposite, amount_in, moved, part_of, same_array, count_at}
+use Rattle.cl_meaning.specs.Values.{Scalar, Pattern, Points, patterns_in, patterns, Entry, Value, Missing, Place, Pointer, Amount, Forth, Back, opposite, amount_in, moved, part_of, same_array}
 
 -- An operation on the newest entries of a stack, the newest written last.
 pub data Operation : Type 0 where

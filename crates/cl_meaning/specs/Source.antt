@@ -1,17 +1,14 @@
 -- A launch of a unit: what each work-item sees and begins with, the shared memory, and all items together (OpenCL C 1.2, 6.5, 6.7 and 6.12.11).
-use Rattle.std.specs.Prelude.{ℕ, suc, nat_eq, ◌&&◌, Bool, true, false, if◌then◌else◌, List, [], ◌∷◌, map, Option, Some, None, unwrap_or, slice_get, bytes_eq}
+use Rattle.std.specs.Prelude.{ℕ, suc, ◌&&◌, Bool, true, false, if◌then◌else◌, List, [], ◌∷◌, length, map, Option, Some, None, unwrap_or, slice_get, bytes_eq}
 use Rattle.clv_worlds.specs.Worlds.{Program, IsDefined}
 use Rattle.cl_types.specs.declared.types.ClType.{ClType}
 use Rattle.cl_tree.specs.declared.unit.ConstantVar.{ConstantVar}
 use Rattle.cl_tree.specs.declared.unit.Function.{Function}
 use Rattle.cl_tree.specs.declared.unit.Variable.{Variable}
-use Rattle.launch_text.specs.declared.launch.ArgKind.{ArgKind}
-use Rattle.launch_text.specs.declared.launch.ArgKind.TheVariants as kind
 use Rattle.launch_text.specs.declared.launch.ArgSize.{ArgSize}
 use Rattle.launch_text.specs.declared.launch.ArgSize.TheVariants as argument
-use Rattle.launch_text.specs.declared.launch.LaunchSizes.{LaunchSizes}
-use Rattle.launch_text.specs.Rules.{LoadedLaunch, given_to, bytes_in}
-use Rattle.launch_text.specs.WorkItems.{sizes_list}
+use Rattle.launch_text.specs.Rules.{LoadedLaunch}
+use Rattle.launch_text.specs.Seen.{launch_seen}
 use Rattle.cl_tree.specs.declared.event.Shared.TheVariants as shared
 use Rattle.cl_common.specs.Bytes.{no_bytes}
 use Rattle.cl_common.specs.Events.{Asked, gate_of}
@@ -46,28 +43,8 @@ abbrev pub params_of : Option Function → List Variable
 params_of None = []
 params_of (Some f) = f.params
 
--- what an item sees of an argument
-abbrev pub seen : List (List ℕ) → Option ArgKind → ArgSize
-seen buffers (Some (kind.Buffer file)) = argument.Buffer file (bytes_in buffers file)
-seen buffers (Some (kind.Local bytes)) = argument.Local bytes
-seen buffers (Some (kind.Plain bytes)) = argument.Plain bytes
-seen buffers None = argument.Plain []
-
-abbrev pub arguments_from : ℕ → LoadedLaunch → List Variable → List ArgSize
-arguments_from k l [] = []
-arguments_from k l (p ∷ ps) = seen l.buffers (given_to k l.arguments) ∷ arguments_from (suc k) l ps
-
-abbrev pub launch_seen : Unit → LoadedLaunch → LaunchSizes
-launch_seen u l = record {
-  kernel = l.kernel;
-  dims = l.dims;
-  global = sizes_list l.global;
-  local = sizes_list l.local;
-  args = arguments_from 0 l (params_of (slice_get u.functions (kernel_of l.kernel u.functions)));
-}
-
 abbrev pub surroundings_of : Unit → LoadedLaunch → ℕ → Surroundings
-surroundings_of u l item = record { types = u.types; functions = map (code_of u.types) u.functions; launch = launch_seen u l; item = item }
+surroundings_of u l item = record { types = u.types; functions = map (code_of u.types) u.functions; launch = launch_seen l (length (params_of (slice_get u.functions (kernel_of l.kernel u.functions)))); item = item }
 
 -- ---- what an item begins with
 

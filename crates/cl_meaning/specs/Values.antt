@@ -1,5 +1,5 @@
 -- Objects, pointers and values (C99, 6.2.4 and 6.5.6; OpenCL C 1.2, 6.5).
-use Rattle.std.specs.Prelude.{ℕ, zero, suc, ◌+◌, ◌-◌, ◌*◌, ◌/◌, ◌%◌, nat_eq, nat_le, ◌&&◌, Bool, true, false, if◌then◌else◌, List, [], ◌∷◌, map, length, Option, Some, None, ℤ, pos, negsuc}
+use Rattle.std.specs.Prelude.{ℕ, suc, ◌+◌, ◌-◌, ◌*◌, nat_eq, nat_le, ◌&&◌, Bool, false, if◌then◌else◌, List, map, length, Option, Some, None, ℤ, pos, negsuc}
 use Rattle.clv_num.specs.Numbers.{signed_of}
 use Rattle.cl_types.specs.declared.types.ClType.{ClType}
 use Rattle.cl_types.specs.declared.types.TypeId.{TypeId}

@@ -21,7 +21,7 @@ use Rattle.spv_reflect.specs.declared.rows.Reflection.{Reflection}
 use Rattle.clv_engine.specs.KernelRows.{reflection_of}
 use Rattle.spv_meaning.specs.Start.{Start}
 use Rattle.vk_bind.specs.Binding.{variable_among, pointer_to, parameter_of, taken_of, kernel_among, start_of, binding_of, BindsTo}
-use Rattle.vk_bind.proofs.Breaking.{line_gives, given_by}
+use Rattle.launch_text.proofs.Breaking.{line_gives, given_by}
 use Rattle.clv_engine.specs.Promises.{Fits, kernel_takes, surroundings_of}
 use Rattle.clv_engine.proofs.FactsScans.{none_behind}
 use Rattle.clv_engine.proofs.FactsInterface.{variables_are}

@@ -1,3 +1,4 @@
+pub mod Breaking
 pub mod Drafts
 pub mod Files
 pub mod Firsts

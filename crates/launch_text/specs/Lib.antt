@@ -1,4 +1,5 @@
 pub mod Answers
+pub mod BrokenRule
 pub mod Drafts
 pub mod LaunchText
 pub mod Lines

@@ -7,6 +7,7 @@ pub mod launch;
 mod line;
 mod number;
 pub mod read;
+pub mod rules;
 mod said;
 
 pub use launch::{ArgKind, ArgLine, ArgSize, Launch, LaunchSizes, LaunchStop, Schedule};

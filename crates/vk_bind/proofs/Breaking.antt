@@ -1,80 +1,27 @@
--- Which rules a launch breaks, one rule after another.
-use Rattle.std.proofs.Common.{◌≡◌, ◌⊎◌, inl, inr, ℕ, suc, ◌+◌, ◌<◌, ◌≤◌, Bool, true, false, cond, not, ◌&&◌, ◌||◌, eqb, ltb, leb, List, [], ◌∷◌, ◌++◌, length, Option, Some, None, refl, sym, ap, ◌∙◌, subst, arith, slice_get, get_or, Contains, take}
+-- Which rules a launch breaks, as far as the modules can break them that are read so far.
+use Rattle.std.proofs.Common.{◌≡◌, inl, inr, ℕ, suc, ◌+◌, ◌<◌, ◌≤◌, Bool, true, false, cond, not, ◌&&◌, ◌||◌, ltb, leb, List, [], ◌∷◌, ◌++◌, length, Option, Some, None, refl, sym, ap, ◌∙◌, subst, arith, slice_get, get_or, Contains, take}
 use Rattle.std.specs.List.{list_all}
 use Rattle.std.specs.Option.{option_map}
 use Rattle.std.proofs.lemmas.List.{length-map, take_more}
-use Rattle.std.proofs.lemmas.Bool.{eqb-true, eqb-false, leb-true, leb-false, le-leb, ltb-true, ltb-false}
-use Rattle.std.proofs.lemmas.List.Elements.{Contains-push_cases, Contains-append_left, Contains-append_right, Contains-append_cases, Contains-push}
-use Rattle.std.proofs.lemmas.Option.{slice_get-get_or, slice_get-map, slice_get_past, same_Some}
+use Rattle.std.proofs.lemmas.Bool.{leb-true, leb-false, le-leb, ltb-true, ltb-false}
+use Rattle.std.proofs.lemmas.List.Elements.{Contains-push_cases, Contains-append_left, Contains-push}
+use Rattle.std.proofs.lemmas.Option.{slice_get-get_or, slice_get-map, slice_get_past}
 use Rattle.launch_text.specs.declared.launch.ArgKind.{ArgKind}
 use Rattle.launch_text.specs.declared.launch.ArgKind.TheVariants.{Buffer, Local, Plain}
 use Rattle.launch_text.specs.declared.launch.ArgLine.{ArgLine}
-use Rattle.launch_text.specs.Rules.{LoadedLaunch, Parameter, PlainValue, Taken, given_to, is_unmatched, is_of_size, added_by, sum_before, goes_over, fills_grid, is_within_limits, same_sizes, local_sum, breaks_given, breaks_both, breaks_at, breaks_whole, breaks, BrokenRule, broken, Breaks, IsNoLater, IsLeastBroken, KeepsRules}
+use Rattle.launch_text.specs.Rules.{LoadedLaunch, Parameter, PlainValue, Taken, given_to, is_unmatched, is_of_size, added_by, sum_before, goes_over, fills_grid, is_within_limits, same_sizes, local_sum, breaks_both, breaks_at, breaks_whole, breaks, BrokenRule, broken, Breaks, IsLeastBroken, KeepsRules}
+use Rattle.launch_text.proofs.Breaking.{true_false, not_true, lt_or_eq, line_gives, given_by, both_none, both_unsaid, at_outside, whole_outside, Passed, not_below, passed_11, passed_more, least_by, least_kernel}
 use Rattle.vk_bind.specs.declared.parameters.Parameter.{Parameter as Found}
 use Rattle.vk_bind.specs.declared.rules.ArgumentRule.{ArgumentRule}
 use Rattle.vk_bind.specs.declared.rules.ArgumentRule.TheVariants.{Kind, Elements, Restricted}
 use Rattle.vk_bind.specs.Answers.{parameter_from, taken_from, number_by, alone_both, alone_at, NoneBreaks, IsFirst, Finds, NoneWhole, IsFirstWhole, AreGiven, IsFirstMissing, FindsMissing, AreWithin, IsLeastPast, FindsPast, sooner, SumAfter, IsSum, sum_within}
-
-true_false : {A : Type 0} (b : Bool) → b ≡ true → b ≡ false → A
-true_false b d e = absurd (let never : true ≡ false = sym d ∙ e in cc)
-
-not_true : (b : Bool) → (b ≡ true → ⊥) → b ≡ false
-not_true true h = absurd (h refl)
-not_true false h = refl
-
-lt_or_eq_by : (m n : ℕ) (b : Bool) → ltb m n ≡ b → m ≤ n → (m < n) ⊎ (m ≡ n)
-lt_or_eq_by m n true e h = inl (ltb-true m n e)
-lt_or_eq_by m n false e h = inr (let k = ltb-false m n e in omega (arith, h, k))
-
-lt_or_eq : (m n : ℕ) → m ≤ n → (m < n) ⊎ (m ≡ n)
-lt_or_eq m n h = lt_or_eq_by m n (ltb m n) refl h
 
 -- ---- lines
 
 pub given_more : (args : List ArgLine) (n : ℕ) → AreGiven n args → ((kind : ArgKind) × (given_to n args ≡ Some kind)) → AreGiven (n + 1) args
 given_more args n h k = record { given = λ m low. elim (lt_or_eq m n (omega (arith, low))) [ inl p ↦ h.given m p | inr p ↦ subst (λ i. (kind : ArgKind) × (given_to i args ≡ Some kind)) (sym p) k ] }
 
-first_among : (a b : ArgLine) (as_ : List ArgLine) → Contains (a ∷ []) b ⊎ Contains as_ b → (a ≡ b) ⊎ Contains as_ b
-first_among a b as_ (inl p) = elim (Contains-push_cases [] a b p) [ inl q ↦ absurd (let h = q.1 in omega (arith, h)) | inr q ↦ inl q ]
-first_among a b as_ (inr p) = inr p
-
-first_or : (a b : ArgLine) (as_ : List ArgLine) → Contains (a ∷ as_) b → (a ≡ b) ⊎ Contains as_ b
-first_or a b as_ c = first_among a b as_ (Contains-append_cases (a ∷ []) as_ b c)
-
-here : (a : ArgLine) (as_ : List ArgLine) → Contains (a ∷ as_) a
-here a as_ = (0, omega arith, refl)
-
-there : (a b : ArgLine) (as_ : List ArgLine) → Contains as_ b → Contains (a ∷ as_) b
-there a b as_ c = Contains-append_right (a ∷ []) as_ b c
-
-line_by : (a : ArgLine) (as_ : List ArgLine) (n : ℕ) (kind : ArgKind) (b : Bool) → eqb a.ordinal n ≡ b → (given_to n as_ ≡ Some kind → Contains as_ (record { ordinal = n; kind = kind })) → cond b (Some a.kind) (given_to n as_) ≡ Some kind → Contains (a ∷ as_) (record { ordinal = n; kind = kind })
-line_by a as_ n kind true test rest h =
-    let number = eqb-true a.ordinal n test in
-    let same : a.kind ≡ kind = same_Some a.kind kind h in
-    subst (λ m. Contains (a ∷ as_) (record { ordinal = m; kind = kind })) number (subst (λ k. Contains (a ∷ as_) (record { ordinal = a.ordinal; kind = k })) same (here a as_))
-line_by a as_ n kind false test rest h = there a _ as_ (rest h)
-
-pub line_gives : (args : List ArgLine) (n : ℕ) (kind : ArgKind) → given_to n args ≡ Some kind → Contains args (record { ordinal = n; kind = kind })
-line_gives [] n kind h = absurd (let never : ⊥ = cc in never)
-line_gives (a ∷ as_) n kind h = line_by a as_ n kind (eqb a.ordinal n) refl (line_gives as_ n kind) h
-
-none_by : (a : ArgLine) (as_ : List ArgLine) (n : ℕ) (kind : ArgKind) (b : Bool) → eqb a.ordinal n ≡ b → (given_to n as_ ≡ None → Contains as_ (record { ordinal = n; kind = kind }) → ⊥) → cond b (Some a.kind) (given_to n as_) ≡ None → Contains (a ∷ as_) (record { ordinal = n; kind = kind }) → ⊥
-none_by a as_ n kind true test rest h c = cc
-none_by a as_ n kind false test rest h c = elim (first_or a (record { ordinal = n; kind = kind }) as_ c) [
-  | inl p ↦ eqb-false a.ordinal n test (ap (λ (b : ArgLine). b.ordinal) p)
-  | inr p ↦ rest h p
-]
-
-pub line_missing : (args : List ArgLine) (n : ℕ) → given_to n args ≡ None → (kind : ArgKind) → Contains args (record { ordinal = n; kind = kind }) → ⊥
-line_missing [] n h kind c = let w = c.1 in omega (arith, w)
-line_missing (a ∷ as_) n h kind c = none_by a as_ n kind (eqb a.ordinal n) refl (λ e. line_missing as_ n e kind) h c
-
 -- ---- rule 11
-
--- what a line gives is given, though an earlier line may give something else
-pub given_by : (args : List ArgLine) (n : ℕ) (kind : ArgKind) (o : Option ArgKind) → given_to n args ≡ o → Contains args (record { ordinal = n; kind = kind }) → (other : ArgKind) × (given_to n args ≡ Some other)
-given_by args n kind None e c = absurd (line_missing args n e kind c)
-given_by args n kind (Some other) e c = (other, e)
 
 missing_is : (ps : List Parameter) (args : List ArgLine) (n : ℕ) → n < length ps → given_to n args ≡ None → is_unmatched (slice_get ps n) (given_to n args) ≡ true
 missing_is ps args n w e = ap (λ p. is_unmatched p (given_to n args)) (slice_get-get_or ps n (PlainValue 0) w) ∙ ap (is_unmatched (Some (get_or ps n (PlainValue 0)))) e
@@ -181,14 +128,6 @@ none_more l t rule n h here = record {
 pub first_here : (l : LoadedLaunch) (t : Taken) (rule n : ℕ) → NoneBefore l t rule n → breaks_at l t rule n ≡ true → IsFirst l t rule n
 first_here l t rule n h b = record { breaks = b; before = h.before }
 
-both_none : (l : LoadedLaunch) (t : Taken) (rule n : ℕ) (g : Option ArgKind) → breaks_both l t rule n None g ≡ false
-both_none l t rule n None = refl
-both_none l t rule n (Some given) = refl
-
-both_unsaid : (l : LoadedLaunch) (t : Taken) (rule n : ℕ) (p : Option Parameter) → breaks_both l t rule n p None ≡ false
-both_unsaid l t rule n None = refl
-both_unsaid l t rule n (Some p) = refl
-
 alone_none : (ps : List Parameter) (lines : List ArgLine) (rule : ArgumentRule) (n : ℕ) (g : Option ArgKind) → alone_both ps lines rule n None g ≡ false
 alone_none ps lines rule n None = refl
 alone_none ps lines rule n (Some given) = refl
@@ -260,74 +199,10 @@ none_13 l found required = record { none = λ n. ap (λ p. breaks_both l (taken_
 none_17 : (l : LoadedLaunch) (found : List Found) (required : Option (List ℕ)) → NoneBreaks l (taken_from found required) 17
 none_17 l found required = record { none = λ n. ap (λ p. breaks_both l (taken_from found required) 17 n p (given_to n l.arguments)) (slice_get-map parameter_from found n) ∙ local_kept l (taken_from found required) n (slice_get found n) (given_to n l.arguments) }
 
--- ---- rules of other numbers
-
-abbrev OutOf : ℕ → ℕ → ℕ → Type 0
-OutOf low high rule = (rule < low) ⊎ (high < rule)
-
-apart_by : (low high rule k : ℕ) (b : Bool) → eqb rule k ≡ b → OutOf low high rule → low ≤ k → k ≤ high → eqb rule k ≡ false
-apart_by low high rule k false e out above below = e
-apart_by low high rule k true e (inl less) above below = absurd (let same = eqb-true rule k e in omega (arith, same, less, above))
-apart_by low high rule k true e (inr more) above below = absurd (let same = eqb-true rule k e in omega (arith, same, more, below))
-
-apart : (low high rule k : ℕ) → OutOf low high rule → low ≤ k → k ≤ high → eqb rule k ≡ false
-apart low high rule k out above below = apart_by low high rule k (eqb rule k) refl out above below
-
-skip : (b x y : Bool) → b ≡ false → cond b x y ≡ y
-skip true x y e = absurd (let never : true ≡ false = e in cc)
-skip false x y e = refl
-
-given_outside : (l : LoadedLaunch) (t : Taken) (rule n : ℕ) (p : Parameter) (g : ArgKind) → OutOf 11 17 rule → breaks_given l t rule n p g ≡ false
-given_outside l t rule n p g out =
-    skip (eqb rule 12) _ _ (apart 11 17 rule 12 out (omega arith) (omega arith))
-    ∙ skip (eqb rule 13) _ _ (apart 11 17 rule 13 out (omega arith) (omega arith))
-    ∙ skip (eqb rule 14) _ _ (apart 11 17 rule 14 out (omega arith) (omega arith))
-    ∙ skip (eqb rule 15) _ _ (apart 11 17 rule 15 out (omega arith) (omega arith))
-    ∙ skip (eqb rule 16) _ _ (apart 11 17 rule 16 out (omega arith) (omega arith))
-    ∙ skip (eqb rule 17) _ _ (apart 11 17 rule 17 out (omega arith) (omega arith))
-
-both_outside : (l : LoadedLaunch) (t : Taken) (rule n : ℕ) (p : Option Parameter) (g : Option ArgKind) → OutOf 11 17 rule → breaks_both l t rule n p g ≡ false
-both_outside l t rule n None g out = both_none l t rule n g
-both_outside l t rule n (Some p) None out = refl
-both_outside l t rule n (Some p) (Some g) out = given_outside l t rule n p g out
-
-at_outside : (l : LoadedLaunch) (t : Taken) (rule n : ℕ) → OutOf 11 17 rule → breaks_at l t rule n ≡ false
-at_outside l t rule n out = skip (eqb rule 11) _ _ (apart 11 17 rule 11 out (omega arith) (omega arith)) ∙ both_outside l t rule n (slice_get t.parameters n) (given_to n l.arguments) out
-
-whole_outside : (l : LoadedLaunch) (t : Taken) (rule : ℕ) → OutOf 18 21 rule → breaks_whole l t rule ≡ false
-whole_outside l t rule out =
-    skip (eqb rule 18) _ _ (apart 18 21 rule 18 out (omega arith) (omega arith))
-    ∙ skip (eqb rule 19) _ _ (apart 18 21 rule 19 out (omega arith) (omega arith))
-    ∙ skip (eqb rule 20) _ _ (apart 18 21 rule 20 out (omega arith) (omega arith))
-    ∙ skip (eqb rule 21) _ _ (apart 18 21 rule 21 out (omega arith) (omega arith))
-
 -- ---- one rule after another
 
--- no rule below this number is broken
-pub record Passed (l : LoadedLaunch) (t : Taken) (rule : ℕ) : Type 0 where
-  pub none : (s : BrokenRule) → Breaks l (Some t) s → rule ≤ s.number
-
-low_kept : (l : LoadedLaunch) (t : Taken) (rule : ℕ) (x : Option ℕ) → rule < 11 → breaks l (Some t) rule x ≡ false
-low_kept l t rule None low = whole_outside l t rule (inl (omega (arith, low)))
-low_kept l t rule (Some n) low = at_outside l t rule n (inl low)
-
-not_below : (m n : ℕ) → (m < n → ⊥) → n ≤ m
-not_below m n h = omega arith
-
-pub passed_11 : (l : LoadedLaunch) (t : Taken) → Passed l t 11
-passed_11 l t = record { none = λ s b. not_below s.number 11 (λ low. true_false (breaks l (Some t) s.number s.argument) b (low_kept l t s.number s.argument low)) }
-
-rule_kept : (l : LoadedLaunch) (t : Taken) (rule : ℕ) (x : Option ℕ) → NoneBreaks l t rule → rule < 18 → breaks l (Some t) rule x ≡ false
-rule_kept l t rule None h low = whole_outside l t rule (inl low)
-rule_kept l t rule (Some n) h low = h.none n
-
 passed_next : (l : LoadedLaunch) (t : Taken) (rule : ℕ) → Passed l t rule → NoneBreaks l t rule → rule < 18 → Passed l t (rule + 1)
-passed_next l t rule p h low = record {
-  none = λ s b. elim (lt_or_eq rule s.number (p.none s b)) [
-    | inl more ↦ omega (arith, more)
-    | inr same ↦ true_false (breaks l (Some t) s.number s.argument) b (subst (λ k. breaks l (Some t) k s.argument ≡ false) same (rule_kept l t rule s.argument h low))
-  ];
-}
+passed_next l t rule p h low = passed_more l t rule p h.none (whole_outside l t rule (inl low))
 
 pub passed_12 : (l : LoadedLaunch) (t : Taken) → NoneBreaks l t 11 → Passed l t 12
 passed_12 l t h = passed_next l t 11 (passed_11 l t) h (omega arith)
@@ -344,16 +219,8 @@ passed_16 l found required a b c d = passed_next l (taken_from found required) 1
 pub passed_18 : (l : LoadedLaunch) (found : List Found) (required : Option (List ℕ)) → NoneBreaks l (taken_from found required) 11 → NoneBreaks l (taken_from found required) 12 → NoneBreaks l (taken_from found required) 14 → NoneBreaks l (taken_from found required) 15 → NoneBreaks l (taken_from found required) 16 → Passed l (taken_from found required) 18
 passed_18 l found required a b c d e = let t = taken_from found required in passed_next l t 17 (passed_next l t 16 (passed_16 l found required a b c d) e (omega arith)) (none_17 l found required) (omega arith)
 
-no_later : (l : LoadedLaunch) (t : Taken) (rule n number : ℕ) (x : Option ℕ) → IsFirst l t rule n → breaks l (Some t) number x ≡ true → number ≡ rule → IsNoLater (Some n) x
-no_later l t rule n number None h b e = tt
-no_later l t rule n number (Some m) h b e = not_below m n (λ low. true_false (breaks_at l t rule m) (subst (λ k. breaks_at l t k m ≡ true) e b) (h.before m low))
-
 pub least_at : (l : LoadedLaunch) (t : Taken) (rule n : ℕ) → Passed l t rule → IsFirst l t rule n → IsLeastBroken l (Some t) (broken rule (Some n))
-least_at l t rule n p h = record {
-  breaks = h.breaks;
-  least = p.none;
-  first = λ s b e. no_later l t rule n s.number s.argument h b e;
-}
+least_at l t rule n p h = least_by l t rule n p h.breaks h.before
 
 not_earlier : (l : LoadedLaunch) (t : Taken) (rule number : ℕ) (x : Option ℕ) → IsFirstWhole l t rule → 18 ≤ number → breaks l (Some t) number x ≡ true → rule ≤ number
 not_earlier l t rule number None h high b = not_below number rule (λ low. true_false (breaks_whole l t number) b (h.before number high low))
@@ -374,12 +241,8 @@ pub keeps_rules : (l : LoadedLaunch) (t : Taken) → Passed l t 18 → NoneWhole
 keeps_rules l t p h = record { none = λ number x. not_true (breaks l (Some t) number x) (λ b. true_false (breaks l (Some t) number x) b (none_kept l t number x h (p.none (broken number x) b))) }
 
 -- there is no such kernel
-no_kernel_by : (l : LoadedLaunch) (number : ℕ) (x : Option ℕ) → breaks l None number x ≡ true → 10 ≤ number
-no_kernel_by l number None b = (let same = eqb-true number 10 b in omega (arith, same))
-no_kernel_by l number (Some n) b = absurd (let never : false ≡ true = b in cc)
-
-pub least_kernel : (l : LoadedLaunch) → IsLeastBroken l None (broken 10 None)
-least_kernel l = record { breaks = refl; least = λ s b. no_kernel_by l s.number s.argument b; first = λ s b e. tt }
+pub no_kernel : (l : LoadedLaunch) → IsLeastBroken l None (broken 10 None)
+no_kernel l = least_kernel l
 
 -- ---- the laws
 

@@ -53,9 +53,9 @@ pub struct Spec {
 /// 18. Work-groups that don't fill the grid.
 /// 19. A work-group of over 1,024 work-items, or a grid of over 16,384.
 /// 20. Another size of a work-group than the kernel requires.
-/// 21. Over 32,768 bytes of local memory in the arguments.
 ///
-/// Rules 13 and 17 are on plain and local arguments, which no module has so far.
+/// Rules 13, 17 and 21 are on plain and local arguments, which no module has so far: what is given to one
+/// breaks rule 12 before them.
 #[derive(Clone, Copy, PartialEq, Eq, Debug)]
 pub enum BindStop {
     Fault { number: u8, arg: Option<u32> },

@@ -1,7 +1,8 @@
 use Rattle.std.proofs.Common.{Some, refl, sym, subst}
 use Rattle.launch_text.specs.Rules.{IsLeastBroken, loaded}
 use Rattle.vk_bind.specs.Answers.{taken_from}
-use Rattle.vk_bind.proofs.Breaking.{none_found, least_at, least_whole, keeps_rules, passed_11, passed_12, passed_14, passed_15, passed_16, passed_18}
+use Rattle.launch_text.proofs.Breaking.{passed_11}
+use Rattle.vk_bind.proofs.Breaking.{none_found, least_at, least_whole, keeps_rules, passed_12, passed_14, passed_15, passed_16, passed_18}
 use Rattle.vk_bind.proofs.binding.least_broken.Goals as goal
 
 pub returns-in-Some : goal.returns-in-Some
