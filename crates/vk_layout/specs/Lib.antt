@@ -1,0 +1,4 @@
+pub mod Interface
+pub mod Limits
+pub mod Rows
+pub mod Types
