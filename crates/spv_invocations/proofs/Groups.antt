@@ -283,9 +283,11 @@ module _ (chains : ℕ → Option (List ℕ)) where
         by_test true t h = absurd (let g : Opens ≡ Mismatches j = h in cc)
         by_test false t h =
             let g : Mismatches i ≡ Mismatches j = h in
-            let same : i ≡ j = cc in
-            (subst (λ n. Has n members) same first.0, (chain, subst (λ n. chains n ≡ Some chain) same first.1),
-              λ d all. let one : Some chain ≡ Some d = sym first.1 ∙ all i first.0 in let eq : chain ≡ d = cc in not_both (all_wait chains chain members) (each_waits chain members (λ k m. all k m ∙ ap Some (sym eq))) t)
+            let same : i ≡ j = cc in (
+              subst (λ n. Has n members) same first.0,
+              (chain, subst (λ n. chains n ≡ Some chain) same first.1),
+              λ d all. let one : Some chain ≡ Some d = sym first.1 ∙ all i first.0 in let eq : chain ≡ d = cc in not_both (all_wait chains chain members) (each_waits chain members (λ k m. all k m ∙ ap Some (sym eq))) t,
+            )
 
     still : (b : Bool) → list_any (is_among queue) members ≡ b → settled_of chains queue members ≡ (if b then GoesOn else settled_by chains members (first_waiting chains members))
     still b e = ap (λ c. if c then GoesOn else settled_by chains members (first_waiting chains members)) e

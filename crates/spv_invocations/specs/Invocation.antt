@@ -19,7 +19,7 @@ use Rattle.spv_meaning.specs.Start.{Bound}
 use Rattle.spv_invocations.specs.Start.{Start, Given}
 use Rattle.spv_invocations.specs.Reading.{Line, Basic, TruthConstant, LongConstant, CompositeConstant, NullConstant, Makes, Undefined, Call, ExtractAt, InsertAt, Shuffle, Construct, Insert, Bitcast, Operation, Atomic as AtomicOn, ControlBarrier, MemoryBarrier, Merge, Branch, BranchConditional, Switch, ReturnValue, Making, line_at, line_in, type_in, pointee_in, parameters_of, first_place, variables_of, count_variables, place_of}
 use Rattle.spv_invocations.specs.Values.{Block, Buffer, Push, Cells, Group, Own, Input, Place, InBytes, InCells, Value, Number, Unset, PointsAt, Parts, listed, composite, scalars_in, leaves_of, numbers_of, part_at, with_part, filled, widths_of, dealt, joined, zeros}
-use Rattle.spv_invocations.specs.Types.{specialised_as, shape_of, width_in, laid_at, Led, ToPart, PastEnd, led}
+use Rattle.spv_invocations.specs.Types.{DEPTH, specialised_as, shape_of, width_in, laid_at, Led, ToPart, PastEnd, led}
 use Rattle.spv_invocations.specs.Operations.{Lanes, Each, Stops, lanes_from}
 
 -- ---- states
@@ -97,19 +97,19 @@ abbrev pub block_of : Given → ℕ → ℕ → Option Block
 block_of g v storage =
     if nat_eq storage storage_class.STORAGE_BUFFER then (buffer_among g.body v g.start.bound >>= λ b. Some (Buffer b)) else only_if (nat_eq storage storage_class.PUSH_CONSTANT) Push
 
-abbrev pub cells_of : ℕ → ℕ → ℕ → Option Cells
-cells_of depth v storage =
+abbrev pub cells_by : ℕ → ℕ → ℕ → Option Cells
+cells_by depth v storage =
     if nat_eq storage storage_class.FUNCTION then Some (Own depth v) else (if nat_eq storage storage_class.WORKGROUP then Some (Group v) else only_if (nat_eq storage storage_class.INPUT) (Input v))
 
 -- a pointer to a variable, where so many calls are below
 abbrev pub pointer_by : Given → ℕ → Option Line → Option Value
 pointer_by g depth (Some (Basic (Variable t r storage))) =
-    pointee_in g.body t >>= λ pointee. or_else (block_of g r storage >>= λ b. Some (PointsAt (InBytes b 0 pointee))) (cells_of depth r storage >>= λ c. Some (PointsAt (InCells c [] pointee)))
+    pointee_in g.body t >>= λ pointee. or_else (block_of g r storage >>= λ b. Some (PointsAt (InBytes b 0 pointee))) (cells_by depth r storage >>= λ c. Some (PointsAt (InCells c [] pointee)))
 pointer_by g depth _ = None
 
--- constants nest as deep as types
+-- Constants nest as deep as types.
 abbrev pub global_at : Given → ℕ → ℕ → Option Value
-global_at g depth id = or_else (constant_within 19 g id) (pointer_by g depth (line_in g.body id))
+global_at g depth id = or_else (constant_within DEPTH g id) (pointer_by g depth (line_in g.body id))
 
 abbrev pub value_at : Given → Going → ℕ → Option Value
 value_at g s id = or_else (value_among s.frame.values id) (or_else (value_among s.frame.parameters id) (global_at g (depth_of s) id))

@@ -12,7 +12,7 @@ use Rattle.spv_invocations.specs.Values.{Value, Unset, composite}
 
 -- types nest 18 deep at the most
 abbrev pub DEPTH : ℕ
-DEPTH = 19
+DEPTH = 18
 
 -- ---- constants of one number
 

@@ -133,7 +133,7 @@ shared_over global local =
       group = group_of global local;
       denies = λ item asked m. denied m (group_of global local item) asked.event;
       reply = λ item asked m. answer_of m (group_of global local item) asked.event;
-      leave = λ item asked x m. after_event (group_of global local item) asked.event x m
+      leave = λ item asked x m. after_event (group_of global local item) asked.event x m;
     }
 
 -- the chain of a barrier
