@@ -1,1 +1,8 @@
 mod Samples
+pub mod Plain
+pub mod Operands
+pub mod Quiet
+pub mod Moves
+pub mod Steady
+pub mod Runs
+pub mod Meetings

@@ -10,3 +10,4 @@ pub mod Items
 pub mod ItemRuns
 pub mod Source
 pub mod Fits
+pub mod Laws

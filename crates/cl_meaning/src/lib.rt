@@ -2,6 +2,7 @@
 //! for what lies in shared memory (OpenCL C 1.2, 6).
 #![tactic(auto)]
 
+pub mod laws;
 pub mod run;
 
 pub use run::ItemRun;

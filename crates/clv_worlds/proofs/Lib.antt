@@ -4,3 +4,4 @@ pub mod Lift
 pub mod Mismatch
 pub mod Stuck
 pub mod Simulated
+pub mod Logs
