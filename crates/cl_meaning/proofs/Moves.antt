@@ -17,7 +17,7 @@ use Rattle.cl_meaning.specs.Expressions.{type_of, uses, may_drop}
 use Rattle.cl_meaning.specs.Statements.{stmts_tasks, sections_tasks, body_tasks, test_tasks}
 use Rattle.cl_meaning.specs.States.{Surroundings, Around, InLoop, InSwitch, Caller, Item}
 use Rattle.cl_meaning.specs.Effects.{Effect, Goes, Picks, Questions, Undefined, extent_of, reads_in, read_effect, writes_in, write_effect, specified, component_effect, operate_effect, recall_effect, pointing, scalars_on, entered, left, atomic_at, atomic_effect, arguments_on, unless_effect, is_true, popped, first, pushed_truth, broken, continued, tested, is_case, is_default, some_label, from_label, or_else, switched, select_effect, effect_of, found, number_on, appended}
-use Rattle.cl_meaning.specs.Laws.{IsBody, HasBodies, AllHaveBodies, SectionsHaveBodies, FunctionsHaveBodies}
+use Rattle.cl_meaning.proofs.Loops.{IsBody, HasBodies, AllHaveBodies, SectionsHaveBodies, FunctionsHaveBodies}
 use Rattle.cl_meaning.proofs.Plain.{room, Ways, extra, lead, IsPlain, Each, each_append, steps_fine}
 use Rattle.cl_meaning.proofs.Operands.{uses_fine}
 use Rattle.cl_meaning.proofs.Quiet.{jumps, ways, returned, quiet_left, IsSteadyAct, AreSteady, CallersSteady, IsSteady, steady, round_lead, stmts_steady, sections_steady, body_steady, test_steady, again_steady, test_round, again_round, function_steady, stmts_lead, body_lead, sections_lead, uses_lead, steps_lead, function_lead}

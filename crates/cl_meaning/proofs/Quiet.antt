@@ -9,7 +9,7 @@ use Rattle.cl_meaning.specs.Tasks.{Act, Leave, Decide, SelectSection, Test, Loop
 use Rattle.cl_meaning.specs.Expressions.{total, uses, drops, may_drop}
 use Rattle.cl_meaning.specs.Statements.{stmt_tasks, stmts_tasks, sections_tasks, body_tasks, test_tasks, fallen, function_tasks}
 use Rattle.cl_meaning.specs.States.{Around, InLoop, InSwitch, Caller, Item}
-use Rattle.cl_meaning.specs.Laws.{IsBody, HasBodies, AllHaveBodies, SectionsHaveBodies}
+use Rattle.cl_meaning.proofs.Loops.{IsBody, HasBodies, AllHaveBodies, SectionsHaveBodies}
 use Rattle.cl_meaning.proofs.Plain.{room, Ways, extra, lead, IsPlain, Each, each_append, each_of, lead_append, steps_fine}
 use Rattle.cl_meaning.proofs.Operands.{uses_fine, drops_fine}
 

@@ -15,8 +15,10 @@ use Rattle.cl_meaning.specs.States.{Surroundings, Item}
 use Rattle.cl_meaning.specs.Items.{source_item, picks, weight, weight_by}
 use Rattle.cl_meaning.specs.ItemRuns.{at_once, and_steps, and_event, event_by, spent, answered, fuelled, from, run_within, IsItemRun}
 use Rattle.cl_meaning.specs.Source.{first_item, kernel_of, surroundings_of}
-use Rattle.cl_meaning.specs.Laws.{OneRun, GoesOn, MoreFuel, MoreAnswers, UndefinedStays, FunctionsHaveBodies, RunsAreThere}
+use Rattle.cl_meaning.specs.Laws.{OneRun, GoesOn, MoreFuel, MoreAnswers, UndefinedStays, RunsAreThere}
+use Rattle.cl_meaning.proofs.Loops.{FunctionsHaveBodies}
 use Rattle.cl_meaning.proofs.Quiet.{quiet_left, IsSteady}
+use Rattle.cl_meaning.proofs.Bodies.{functions_have_bodies}
 use Rattle.cl_meaning.proofs.Steady.{keeps, keeps_all, falls, begun_steady}
 
 -- what an optional result comes from
@@ -274,7 +276,8 @@ module _ (s : Surroundings) (f : FunctionsHaveBodies s.functions) where
   run_is_there (suc fuel) i h answers = quiet_moves (suc fuel) (run_is_there fuel) (quiet_left i) i h (omega arith) answers
 
 pub runs_are_there : RunsAreThere
-runs_are_there u l item history answers fuel f =
+runs_are_there u l item history answers fuel =
     let s = surroundings_of u l item in
+    let f = functions_have_bodies u.types u.functions in
     let kernel = kernel_of l.kernel u.functions in
     run_is_there s f fuel (after (source_item s) history (first_item s kernel)) (keeps_all s f history (first_item s kernel) (begun_steady s f kernel)) answers

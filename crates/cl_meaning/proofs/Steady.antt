@@ -11,7 +11,8 @@ use Rattle.cl_meaning.specs.States.{Surroundings, Around, InLoop, InSwitch, Item
 use Rattle.cl_meaning.specs.Effects.{Effect, Goes, Picks, Questions, Undefined, is_true, popped, pushed_truth, broken, continued, tested, is_case, is_default, from_label, or_else, switched, number_on, effect_of}
 use Rattle.cl_meaning.specs.Items.{act_of, status_by, move_by, source_item, weight}
 use Rattle.cl_meaning.specs.Source.{begun, first_item}
-use Rattle.cl_meaning.specs.Laws.{FunctionsHaveBodies, SameCalls, is_call, CallsChangeCalls}
+use Rattle.cl_meaning.specs.Laws.{SameCalls, is_call, CallsChangeCalls}
+use Rattle.cl_meaning.proofs.Loops.{FunctionsHaveBodies}
 use Rattle.cl_meaning.proofs.Plain.{extra}
 use Rattle.cl_meaning.proofs.Quiet.{ways, returned, quiet_left, IsSteady, function_steady}
 use Rattle.cl_meaning.proofs.Moves.{AllOf, if_either, all_of, Stays, straight, Less, act_less, bodies_of}

@@ -155,6 +155,11 @@ abbrev pub arms : Stmts → Stmts × Stmts
 arms NoStmt = (NoStmt, NoStmt)
 arms (AndStmt on_true on_false) = (AndStmt on_true NoStmt, on_false)
 
+-- The body of a loop is a statement (C99, 6.8.5); a tree without one, which comes of no text, has the empty one.
+abbrev pub loop_body : Stmts → Stmts
+loop_body NoStmt = AndStmt Empty NoStmt
+loop_body (AndStmt s ss) = AndStmt s ss
+
 module _ (cs : List ClType) (vars : List Variable) where
   abbrev pub numbered_option : Option TExpr → ℕ → Option Expr × ℕ
   numbered_option None n = (None, n)
@@ -177,15 +182,15 @@ module _ (cs : List ClType) (vars : List Variable) where
   node_over (stmt.Decl k init) n = let e = numbered_option init n in (declared k e.0, e.1)
   node_over (stmt.Expr e) n = let p = numbered vars e n in (Evaluate p.0, p.1)
   node_over (stmt.If cond items) n = let test = numbered vars cond n in let all = placed_all items.items test.1 in (If test.0 (arms all.0).0 (arms all.0).1, all.1)
-  node_over (stmt.While cond items) n = let test = numbered vars cond n in let body = placed_all items.items test.1 in (While test.0 body.0, body.1)
-  node_over (stmt.Do items cond) n = let body = placed_all items.items n in let test = numbered vars cond body.1 in (Do body.0 test.0, test.1)
+  node_over (stmt.While cond items) n = let test = numbered vars cond n in let body = placed_all items.items test.1 in (While test.0 (loop_body body.0), body.1)
+  node_over (stmt.Do items cond) n = let body = placed_all items.items n in let test = numbered vars cond body.1 in (Do (loop_body body.0) test.0, test.1)
   node_over (stmt.For decls begin cond onward items) n =
       let declarations = placed_all decls.items n in
       let first = numbered_option begin declarations.1 in
       let test = numbered vars cond first.1 in
       let next = numbered_option onward test.1 in
       let body = placed_all items.items next.1 in
-      (For declarations.0 first.0 test.0 next.0 body.0, body.1)
+      (For declarations.0 first.0 test.0 next.0 (loop_body body.0), body.1)
   node_over (stmt.Switch value sections) n = let on = numbered vars value n in let all = placed_sections sections.items on.1 in (Switch on.0 all.0, all.1)
   node_over stmt.Break n = (Break, n)
   node_over stmt.Continue n = (Continue, n)

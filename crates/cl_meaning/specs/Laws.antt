@@ -1,5 +1,5 @@
 -- What holds of the meaning as a whole.
-use Rattle.std.specs.Prelude.{◌≡◌, ℕ, ◌+◌, ◌<◌, ◌≤◌, ◌⊎◌, Bool, true, false, List, [], ◌∷◌, ◌++◌, map, take, length}
+use Rattle.std.specs.Prelude.{◌≡◌, ℕ, ◌+◌, ◌<◌, ◌≤◌, ◌⊎◌, Bool, true, false, List, ◌∷◌, ◌++◌, take, length}
 use Rattle.clv_steps.specs.Machines.{Asks, after}
 use Rattle.clv_worlds.specs.Worlds.{World, Opened, Entry, Leads, opening}
 use Rattle.clv_worlds.specs.Histories.{LogTells, MemoryTells}
@@ -12,8 +12,6 @@ use Rattle.launch_text.specs.WorkItems.{volume, group_of}
 use Rattle.cl_common.specs.Events.{Asked}
 use Rattle.cl_common.specs.SharedMemory.{SharedMemory, shared_by, opening_memory}
 use Rattle.cl_meaning.specs.declared.run.ItemRun.{ItemRun}
-use Rattle.cl_meaning.specs.Code.{Stmt, Stmts, NoStmt, AndStmt, Sections, NoSection, AndSection, Code, code_of}
-use Rattle.cl_meaning.specs.Code as code
 use Rattle.cl_meaning.specs.Tasks.{Act, Enter, Leave, Task}
 use Rattle.cl_meaning.specs.States.{Surroundings, Item}
 use Rattle.cl_meaning.specs.Items.{source_item, act_of}
@@ -50,37 +48,10 @@ UndefinedStays = (s : Surroundings) (i : Item) (answers others : List ℕ) (fuel
 
 -- ---- each run ends
 
--- Each loop has a body (C99, 6.8.5). In it a statement is reached, which is a step.
-abbrev pub IsBody : Stmts → Type 0
-IsBody NoStmt = ⊥
-IsBody (AndStmt s ss) = Unit {0}
-
-abbrev mutual
-  pub HasBodies : Stmt → Type 0
-  HasBodies (code.Block ss) = AllHaveBodies ss
-  HasBodies (code.If test on_true on_false) = AllHaveBodies on_true × AllHaveBodies on_false
-  HasBodies (code.While test body) = IsBody body × AllHaveBodies body
-  HasBodies (code.Do body test) = IsBody body × AllHaveBodies body
-  HasBodies (code.For declarations first test next body) = AllHaveBodies declarations × IsBody body × AllHaveBodies body
-  HasBodies (code.Switch on sections) = SectionsHaveBodies sections
-  HasBodies _ = Unit {0}
-
-  pub AllHaveBodies : Stmts → Type 0
-  AllHaveBodies NoStmt = Unit {0}
-  AllHaveBodies (AndStmt s ss) = HasBodies s × AllHaveBodies ss
-
-  pub SectionsHaveBodies : Sections → Type 0
-  SectionsHaveBodies NoSection = Unit {0}
-  SectionsHaveBodies (AndSection labels body rest) = AllHaveBodies body × SectionsHaveBodies rest
-
-abbrev pub FunctionsHaveBodies : List Code → Type 0
-FunctionsHaveBodies [] = Unit {0}
-FunctionsHaveBodies (f ∷ fs) = HasBodies f.body × FunctionsHaveBodies fs
-
--- Where each loop has a body, an item has a run from each state that it comes to, on all answers and with all fuel: between two steps there are
+-- An item has a run from each state that it comes to, on all answers and with all fuel: between two steps there are
 -- finitely many moves.
 abbrev pub RunsAreThere : Type 0
-RunsAreThere = (u : Compiled) (l : LoadedLaunch) (item : ℕ) (history : List ℕ) (answers : List ℕ) (fuel : ℕ) → FunctionsHaveBodies (map (code_of u.types) u.functions)
+RunsAreThere = (u : Compiled) (l : LoadedLaunch) (item : ℕ) (history : List ℕ) (answers : List ℕ) (fuel : ℕ)
     → (r : ItemRun) × IsItemRun (surroundings_of u l item) (after (source_item (surroundings_of u l item)) history (first_item (surroundings_of u l item) (kernel_of l.kernel u.functions))) answers fuel r
 
 -- ---- calls

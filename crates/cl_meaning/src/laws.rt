@@ -24,8 +24,8 @@ pub fn undefined_stays()
     ensures { UndefinedStays }
 {}
 
-/// Where each loop has a body, an item has a run from each state that it comes to, on all answers and with all fuel:
-/// between two steps there are finitely many moves.
+/// An item has a run from each state that it comes to, on all answers and with all fuel: between two steps there are
+/// finitely many moves.
 #[tactic(auto, using(crate::proofs::Runs::runs_are_there))]
 pub fn runs_are_there()
     ensures { RunsAreThere }
