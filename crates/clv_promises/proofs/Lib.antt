@@ -1,1 +1,4 @@
+mod Asking
+mod Bindings
 mod Samples
+mod Sides

@@ -150,7 +150,7 @@ u_k = kernel (107 ∷ []) (variable (97 ∷ []) restrict_ints space.Private 1 13
     (columns (205 ∷ 204 ∷ 207 ∷ 207 ∷ 209 ∷ 209 ∷ 202 ∷ 215 ∷ 214 ∷ 217 ∷ 219 ∷ 218 ∷ 218 ∷ 221 ∷ 221 ∷ 212 ∷ 234 ∷ 233 ∷ 236 ∷ 236 ∷ 238 ∷ 238 ∷ 231 ∷ []))
     (Block (list (Empty ∷ Declare 1 ∷ Evaluate (three (Call 0) void 6 (one (Unary un.Address) own_ints 1 (leaf (Var 1) int 0)) (one Convert ints 3 (leaf (Param 0) restrict_ints 2)) (one Convert char 5 (leaf (Number 1) int 4))) ∷ Evaluate (three (Call 0) void 15 (one (Unary un.Address) own_ints 8 (leaf (Var 1) int 7)) (one Convert ints 12 (two (Binary bin.Add) restrict_ints 11 (leaf (Param 0) restrict_ints 9) (leaf (Number 1) int 10))) (one Convert char 14 (leaf (Number 2) int 13))) ∷ Return None ∷ Evaluate (three (Call 0) void 22 (one (Unary un.Address) own_ints 17 (leaf (Var 1) int 16)) (one Convert ints 19 (leaf (Param 0) restrict_ints 18)) (one Convert char 21 (leaf (Number 3) int 20))) ∷ [])))
 
-abbrev u : Functions
+abbrev pub u : Functions
 u = unit (record { variable = variable (116 ∷ []) three_uchars space.Constant 1 18; bytes = (1 ∷ 2 ∷ 255 ∷ []) } ∷ []) (u_f ∷ u_k ∷ [])
 
 -- ---- a module
@@ -241,7 +241,7 @@ rest =
 abbrev module_of : List Inst → Whole
 module_of body = whole (lines_of body)
 
-abbrev m : Whole
+abbrev pub m : Whole
 m = module_of (marks ++ rest)
 
 -- ---- its variables

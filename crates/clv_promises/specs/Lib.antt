@@ -1,3 +1,9 @@
+pub mod Binding
 pub mod Copied
+pub mod Promises
+pub mod Questions
 pub mod Rooms
+pub mod RowRules
+pub mod Rows
+pub mod Simulation
 pub mod Verdicts
