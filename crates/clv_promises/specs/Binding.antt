@@ -1,9 +1,8 @@
 -- How a launch is bound to a module: through its reflection rows, its variables' types and decorations, and nothing of a source (Vulkan, 15.6; OpenCL 1.2, 5.7.2).
 use Rattle.std.specs.Prelude.{◌≡◌, ℕ, suc, ◌/◌, ◌==◌, nat_eq, Bool, true, false, ◌&&◌, if◌then◌else◌, List, [], ◌∷◌, ◌++◌, length, map, replicate, Option, Some, None, unwrap_or}
-use Rattle.std.specs.Str.{bytes_eq}
 use Rattle.launch_text.specs.declared.launch.ArgKind.{ArgKind}
 use Rattle.launch_text.specs.declared.launch.ArgKind.TheVariants.{Buffer, Local, Plain}
-use Rattle.launch_text.specs.WorkItems.{Sizes, sizes_of}
+use Rattle.launch_text.specs.WorkItems.{Sizes}
 use Rattle.launch_text.specs.Rules.{LoadedLaunch, Element, Parameter, BufferPointer, LocalPointer, PlainValue, Taken, KeepsRules, given_to}
 use Rattle.spv_module.specs.declared.module.Inst.{Inst}
 use Rattle.spv_module.specs.declared.op.TheConstants as op
@@ -12,7 +11,7 @@ use Rattle.spv_module.specs.declared.enumerant.decoration.TheConstants as decora
 use Rattle.spv_module.specs.declared.enumerant.execution_mode.TheConstants as execution_mode
 use Rattle.spv_module.specs.Options.{◌>>=◌, for_each, is_there}
 use Rattle.spv_module.specs.Instructions.{Said, RuntimeArray, ids, words, definition_in, decoration_in}
-use Rattle.spv_module.specs.Interface.{is_bound_at, variables_in, pointee_by}
+use Rattle.spv_module.specs.Interface.{variables_in, pointee_by}
 use Rattle.spv_types_rules.specs.Lines.{Whole, whole, lines_of}
 use Rattle.spv_types_rules.specs.Layout.{size}
 use Rattle.spv_types_rules.specs.Variables.{used}
@@ -26,6 +25,7 @@ use Rattle.spv_meaning.specs.Start.{Bound, Specialised}
 use Rattle.spv_invocations.specs.Start.{Start, Given}
 use Rattle.spv_invocations.specs.Types.{laid_at, stride_in}
 use Rattle.spv_invocations.specs.Worlds.{put_at}
+use Rattle.vk_bind.specs.Binding.{variable_among, array_of, required_by, kernel_among, specialised_by}
 use Rattle.clv_promises.specs.Rows.{rows_of}
 
 -- ---- a module where nothing is launched
@@ -47,19 +47,12 @@ module _ (body : List Inst) where
   -- ---- what a kernel takes
 
   -- the variable of a set and binding
-  abbrev pub variable_among : ℕ → ℕ → List (ℕ × ℕ) → Option ℕ
-  variable_among set binding [] = None
-  variable_among set binding (v ∷ vs) = if is_bound_at body v.0 set binding then Some v.0 else variable_among set binding vs
-
   abbrev pub variable_at : ℕ → ℕ → Option ℕ
-  variable_at set binding = variable_among set binding (variables_in body)
+  variable_at set binding = variable_among body set binding (variables_in body)
 
-  -- the block that a variable's pointer type points to, and the one array of the block of a buffer
+  -- the block that a variable's pointer type points to
   abbrev pub block_of : ℕ → Option ℕ
   block_of v = pointee_by (definition_in body v) >>= λ pointer. pointee_by (definition_in body pointer)
-
-  abbrev pub array_of : ℕ → Option ℕ
-  array_of v = block_of v >>= λ block. pointee_by (definition_in body block)
 
   abbrev pub element_by : Option Said → Option ℕ
   element_by (Some (RuntimeArray r element)) = Some element
@@ -70,7 +63,7 @@ module _ (body : List Inst) where
   elements_of array = stride_in body array >>= λ stride. element_by (definition_in body array) >>= λ element. laid_at (at_rest body) element 0 >>= λ laid. Some (record { size = stride; scalars = laid })
 
   abbrev pub buffer_of : ℕ → Option Parameter
-  buffer_of v = array_of v >>= λ array. elements_of array >>= λ element. Some (BufferPointer element (is_there (decoration_in body v decoration.RESTRICT)))
+  buffer_of v = array_of body v >>= λ array. elements_of array >>= λ element. Some (BufferPointer element (is_there (decoration_in body v decoration.RESTRICT)))
 
   -- what the row of an argument asks for
   abbrev pub parameter_by : ArgKindRow → Option Parameter
@@ -82,11 +75,7 @@ module _ (body : List Inst) where
   abbrev pub parameter_of : ArgRow → Option Parameter
   parameter_of row = parameter_by row.kind
 
-  -- the size of a group that the row requires, and that which the entry point's mode says (LocalSize)
-  abbrev pub row_sizes : Option (List ℕ) → List Sizes
-  row_sizes None = []
-  row_sizes (Some s) = sizes_of s ∷ []
-
+  -- the size of a group that an entry point's mode says (LocalSize), beside the one that its row requires
   abbrev pub mode_sizes : ℕ → List ℕ → List ℕ → List Sizes
   mode_sizes function (f ∷ []) (mode ∷ x ∷ y ∷ z ∷ []) = if nat_eq f function && nat_eq mode execution_mode.LOCAL_SIZE then record { x = x; y = y; z = z } ∷ [] else []
   mode_sizes function _ _ = []
@@ -96,13 +85,9 @@ module _ (body : List Inst) where
   entry_sizes function (i ∷ is) = (if i.op == op.EXECUTION_MODE then mode_sizes function (ids i.operands) (words i.operands) else []) ++ entry_sizes function is
 
   abbrev pub taken_of : KernelRow → Option Taken
-  taken_of row = for_each parameter_of row.args >>= λ parameters. Some (record { parameters = parameters; required = row_sizes row.required ++ entry_sizes row.function body })
+  taken_of row = for_each parameter_of row.args >>= λ parameters. Some (record { parameters = parameters; required = required_by row.required ++ entry_sizes row.function body })
 
   -- the row of the kernel of a name, and what it takes; none where there is no such kernel
-  abbrev pub kernel_among : List ℕ → List KernelRow → Option KernelRow
-  kernel_among name [] = None
-  kernel_among name (row ∷ rows) = if bytes_eq row.name name then Some row else kernel_among name rows
-
   abbrev pub kernel_of : List ℕ → Option KernelRow
   kernel_of name = kernel_among name (rows_of whole_module).kernels
 
@@ -188,12 +173,6 @@ module _ (body : List Inst) where
 
   -- ---- specialisation constants: the size of a group, the lengths of arguments in local memory, the work dimension
 
-  abbrev pub specialised_sizes : Option (List ℕ) → Sizes → List Specialised
-  specialised_sizes None local = []
-  specialised_sizes (Some s) local =
-      let spec = sizes_of s in
-      record { id = spec.x; value = local.x } ∷ record { id = spec.y; value = local.y } ∷ record { id = spec.z; value = local.z } ∷ []
-
   abbrev pub specialised_length : ArgKindRow → Option ArgKind → List Specialised
   specialised_length (kind.Local spec element) (Some (Local bytes)) = record { id = spec; value = bytes / element } ∷ []
   specialised_length _ _ = []
@@ -221,7 +200,7 @@ module _ (body : List Inst) where
     shared = length (shared_buffers l r);
     bound = bound_from l 0 row.args ++ (constant_bound (length l.buffers) r.constants ++ blocks_bound (length (shared_buffers l r)) (blocks_of row));
     push = push_bytes l row;
-    specialised = specialised_sizes r.sizes l.local ++ (specialised_lengths l 0 row.args ++ specialised_dimension r.dim l.dims);
+    specialised = specialised_by r.sizes l.local ++ (specialised_lengths l 0 row.args ++ specialised_dimension r.dim l.dims);
   }
 
   -- the start that a launch gives; none where the module has no kernel of its name

@@ -1,6 +1,6 @@
 -- The variables that a module has for a unit: of the arguments and `__local` variables of kernels, and of constants, with their types and decorations
 -- (Vulkan, 15.6).
-use Rattle.std.specs.Prelude.{◌≡◌, ℕ, ◌+◌, nat_eq, ◌==◌, Bool, true, false, not, ◌&&◌, ◌||◌, if◌then◌else◌, List, [], ◌∷◌, ◌++◌, Option, Some, None}
+use Rattle.std.specs.Prelude.{◌≡◌, ℕ, ◌+◌, ◌==◌, Bool, true, false, not, ◌&&◌, ◌||◌, if◌then◌else◌, List, [], ◌∷◌, ◌++◌, Option, Some, None}
 use Rattle.cl_types.specs.declared.types.ClType.{ClType}
 use Rattle.cl_types.specs.Layout.{TypeTree, TypeTrees, size_of}
 use Rattle.cl_types.specs.Table.{tree_of}
@@ -10,10 +10,12 @@ use Rattle.cl_tree.specs.Statements.{is_local}
 use Rattle.spv_module.specs.declared.op.TheConstants as op
 use Rattle.spv_module.specs.declared.enumerant.decoration.TheConstants as decoration
 use Rattle.spv_module.specs.declared.enumerant.storage_class.TheConstants as storage_class
+use Rattle.spv_module.specs.Grammar.{is_among}
+use Rattle.spv_types_rules.specs.Entries.{are_distinct}
 use Rattle.spv_types_rules.specs.Lines.{Line, Whole, defined, has_op, decorations, member_decorations, is_decorated, is_member_decorated, is_int_of, is_some_of, first, pointer}
 use Rattle.vk_layout.specs.declared.options.Pod.{Pod}
 use Rattle.vk_layout.specs.declared.options.Pod.TheVariants.{Storage, Push}
-use Rattle.cl_provenance.specs.Routines.{Routine, Unit as Functions}
+use Rattle.cl_provenance.specs.Routines.{Routine, Unit as Functions, joined}
 use Rattle.vk_layout.specs.Rows.{Taken, Buffer, Sized, Plain, a_buffer, a_sized, a_plain, all_of, number_of, is_some, taken_of, members, bindings_of, specs_of, constant_types, kernels_of}
 use Rattle.vk_layout.specs.Types.{stands_for, stand_for, ids_at, is_one, is_none, with_one, with_two, with_all}
 
@@ -129,17 +131,9 @@ module _ (w : Whole) where
 
   -- ---- no others
 
-  abbrev pub is_among : ℕ → List ℕ → Bool
-  is_among v [] = false
-  is_among v (u ∷ us) = nat_eq v u || is_among v us
-
-  abbrev pub are_distinct : List ℕ → Bool
-  are_distinct [] = true
-  are_distinct (v ∷ vs) = not (is_among v vs) && are_distinct vs
-
   abbrev pub result_among : List ℕ → Option ℕ → Bool
   result_among vs None = false
-  result_among vs (Some v) = is_among v vs
+  result_among vs (Some v) = is_among vs v
 
   -- a variable of a function, an input, or one of these
   abbrev pub is_expected : List ℕ → Line → Bool
@@ -148,10 +142,6 @@ module _ (w : Whole) where
   abbrev pub all_expected : List ℕ → List Line → Bool
   all_expected vs [] = true
   all_expected vs (l ∷ ls) = is_expected vs l && all_expected vs ls
-
-abbrev pub joined : {A : Type 0} → List (List A) → List A
-joined [] = []
-joined (as_ ∷ rest) = as_ ++ joined rest
 
 abbrev pub all_wanted : Whole → List (List Wanted) → List (List ℕ) → Bool
 all_wanted w [] [] = true
@@ -164,5 +154,5 @@ pub record InterfaceStands (w : Whole) (pod : Pod) (u : Functions) : Type 0 wher
   pub constants : List ℕ
   pub of_each_kernel : all_wanted w (of_kernels u.types pod [] (kernels_of u.functions)) kernels ≡ true
   pub of_all_constants : are_wanted w (of_constants u.types u.constants) constants ≡ true
-  pub distinct : are_distinct w (joined kernels ++ constants) ≡ true
+  pub distinct : are_distinct (joined kernels ++ constants) ≡ true
   pub others : all_expected w (joined kernels ++ constants) w.variables ≡ true
