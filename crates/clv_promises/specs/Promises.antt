@@ -1,5 +1,5 @@
 -- What the compiler promises of the module that it makes for a text: that it is good.
-use Rattle.std.specs.Prelude.{◌≡◌, ℕ, nat_eq, ◌*◌, ◌^◌, ◌<◌, ◌≤◌, List, [], length, All, unwrap_or, slice_get}
+use Rattle.std.specs.Prelude.{◌≡◌, ℕ, nat_eq, ◌<◌, List, [], length, All, unwrap_or, slice_get}
 use Rattle.launch_text.specs.WorkItems.{volume}
 use Rattle.launch_text.specs.Rules.{LoadedLaunch}
 use Rattle.launch_text.specs.BrokenRule.{broken_rule}
@@ -11,7 +11,7 @@ use Rattle.cl_meaning.specs.Source.{Unit, kernel_of, surroundings_of, first_item
 use Rattle.cl_meaning.specs.Fits.{Fits, takes_of}
 use Rattle.spv_module.specs.declared.module.Inst.{Inst}
 use Rattle.spv_module.specs.declared.module.Module.{Module}
-use Rattle.spv_module.specs.Words.{module_words}
+use Rattle.spv_module.specs.Words.{IsSpelled}
 use Rattle.spv_types_rules.specs.Lines.{Whole, whole, lines_of}
 use Rattle.spv_types_rules.specs.Rules.{rules, IsKept, IsFunctionStructured}
 use Rattle.spv_invocations.specs.Start.{Start}
@@ -40,12 +40,11 @@ whole_of body = whole (lines_of body)
 
 -- ---- the module by itself
 
--- Sound: it breaks none of the rules 1 to 44, and has at most 4,194,303 ids and 256 MiB.
+-- Sound: it breaks none of the rules 1 to 44, and some bytes stand for it, of which there are at most 256 MiB; the bound of its ids is 4,194,303 at most.
 pub record IsSound (m : Module) : Type 0 where
   pub kept : All (IsKept m.body) rules
   pub structured : All IsFunctionStructured (whole_of m.body).functions
-  pub bound : m.bound ≤ 4194303
-  pub size : 4 * length (module_words m) ≤ 2 ^ 28
+  pub spelled : IsSpelled m
 
 -- ---- what it shows
 
