@@ -6,13 +6,7 @@
 # process, less that of a text of a few bytes. The texts keep the typing rules, and are refused by code 900 once they are judged.
 set -u
 cd "$(dirname "$0")/.." || exit 1
-program=crates/clv/out/clv
-for tool in python3 clang; do
-  command -v "$tool" >/dev/null || { echo "skipped: no $tool"; exit 0; }
-done
-[ -x "$program" ] || { echo "skipped: no $program (README.md says how to build it)"; exit 0; }
-folder=$(mktemp -d)
-trap 'rm -rf "$folder"' EXIT
+. bench/judging.sh
 PYTHONDONTWRITEBYTECODE=1 PYTHONPATH=bench python3 - "$program" "$folder" <<'PYTHON'
 import sys
 
