@@ -268,6 +268,7 @@ fn of_three(builtin: Builtin, x: Bits, y: Bits, z: Bits, signed: bool) -> Bits
 
 /// What a built-in function on integers makes of one component of its arguments, which are signed or not
 /// (OpenCL C 1.2, 6.12.3; `convert_R` of 6.2.3, by whether its argument is signed; `select` of 6.12.6).
+/// The arguments are as many as the function has, of widths that it takes. It takes no memory and has no error.
 pub fn value(builtin: Builtin, args: &[Bits], signed: bool) -> Bits
     requires { TakesWidths builtin args.now }
     ensures width { result.width ≡ width_of builtin (width_in args.now) }

@@ -18,7 +18,7 @@ fn greatest(width: u8) -> u64
 }
 
 /// The pattern of the least signed number of so many bits.
-pub(crate) fn least(width: u8) -> u64
+pub fn least(width: u8) -> u64
     requires { is_width width ≡ true }
     ensures { result ≡ 2 ^ (width - 1) }
 {
@@ -120,7 +120,7 @@ fn moved_down(signed: bool, a: Bits, by: u32) -> u64
 
 /// What an operator makes of two components of a type, none where it divides by zero or out of range
 /// (OpenCL C 1.2, 6.3).
-pub(crate) fn component(op: BinOp, t: Gentype, a: u64, b: u64) -> Option<u64>
+pub fn component(op: BinOp, t: Gentype, a: u64, b: u64) -> Option<u64>
     requires { is_width t.bits ≡ true }
     ensures { result ≡ number_by op t a b }
 {
@@ -149,7 +149,7 @@ pub(crate) fn component(op: BinOp, t: Gentype, a: u64, b: u64) -> Option<u64>
 }
 
 /// What an operator makes of one component of so many bits.
-pub(crate) fn unary(op: UnOp, width: u8, n: u64) -> u64
+pub fn unary(op: UnOp, width: u8, n: u64) -> u64
     requires { is_width width ≡ true }
     ensures { result ≡ unary_of op width n }
 {

@@ -2,7 +2,7 @@
 //! components, flags and the bytes of constants. No tree is refused; want of memory is the one refusal.
 #![tactic(auto)]
 
-mod component;
+pub mod component;
 pub mod conversion;
 pub mod folding;
 mod list;

@@ -3,7 +3,7 @@ use Rattle.std.specs.Prelude.{◌≡◌, ℕ, suc, ◌/◌, ◌==◌, nat_eq, Bo
 use Rattle.launch_text.specs.declared.launch.ArgKind.{ArgKind}
 use Rattle.launch_text.specs.declared.launch.ArgKind.TheVariants.{Buffer, Local, Plain}
 use Rattle.launch_text.specs.WorkItems.{Sizes}
-use Rattle.launch_text.specs.Rules.{LoadedLaunch, Element, Parameter, BufferPointer, LocalPointer, PlainValue, Taken, KeepsRules, given_to}
+use Rattle.launch_text.specs.Rules.{LoadedLaunch, Element, Parameter, BufferPointer, LocalPointer, PlainValue, Taken, required_by, KeepsRules, given_to}
 use Rattle.spv_module.specs.declared.module.Inst.{Inst}
 use Rattle.spv_module.specs.declared.op.TheConstants as op
 use Rattle.spv_module.specs.declared.enumerant.storage_class.TheConstants as storage_class
@@ -25,7 +25,7 @@ use Rattle.spv_meaning.specs.Start.{Bound, Specialised}
 use Rattle.spv_invocations.specs.Start.{Start, Given}
 use Rattle.spv_invocations.specs.Types.{laid_at, stride_in}
 use Rattle.spv_invocations.specs.Worlds.{put_at}
-use Rattle.vk_bind.specs.Binding.{variable_among, array_of, required_by, kernel_among, specialised_by}
+use Rattle.vk_bind.specs.Binding.{variable_among, array_of, kernel_among, specialised_by}
 use Rattle.clv_promises.specs.Rows.{rows_of}
 
 -- ---- a module where nothing is launched

@@ -74,6 +74,11 @@ pub record Taken : Type 0 where
   pub parameters : List Parameter
   pub required : List Sizes
 
+-- the sizes that a kernel requires, where it does (OpenCL C 1.2, 6.7.2)
+abbrev pub required_by : Option (List ℕ) → List Sizes
+required_by None = []
+required_by (Some sizes) = sizes_of sizes ∷ []
+
 -- ---- rules on one argument
 
 -- what the line of an argument gives it

@@ -7,7 +7,7 @@ use Rattle.std.proofs.lemmas.Option.{same_Some}
 use Rattle.launch_text.specs.declared.launch.ArgLine.{ArgLine}
 use Rattle.launch_text.specs.declared.launch.Launch.{Launch}
 use Rattle.launch_text.specs.Readable.{IsReadable}
-use Rattle.launch_text.specs.Rules.{LoadedLaunch, Parameter, Taken, buffer_given, broken, IsLeastBroken}
+use Rattle.launch_text.specs.Rules.{LoadedLaunch, Parameter, Taken, required_by, buffer_given, broken, IsLeastBroken}
 use Rattle.spv_meaning.specs.Start.{Bound, Start}
 use Rattle.spv_module.specs.declared.module.Inst.{Inst}
 use Rattle.spv_module.specs.declared.module.Module.{Module}
@@ -23,7 +23,7 @@ use Rattle.spv_reflect.specs.Reflection.{Line, KernelLine, NameLine, BufferLine,
 use Rattle.vk_bind.specs.declared.parameters.Parameter.{Parameter as Found}
 use Rattle.vk_bind.specs.declared.start.Bound.{Bound as Pair}
 use Rattle.vk_bind.specs.Answers.{bound_of, bounds_from, parameter_from, parameters_from, taken_from, IsAccepted}
-use Rattle.vk_bind.specs.Binding.{bound_by, bound_from, kernel_among, parameter_of, required_by, taken_of, takes_in, start_of, BindsTo}
+use Rattle.vk_bind.specs.Binding.{bound_by, bound_from, kernel_among, parameter_of, taken_of, takes_in, start_of, BindsTo}
 
 -- ---- what is bound
 

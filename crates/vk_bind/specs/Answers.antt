@@ -1,7 +1,7 @@
 -- What the calls of this crate answer, in the words of the definitions.
 use Rattle.std.specs.Prelude.{◌≡◌, ℕ, suc, ◌<◌, ◌≤◌, Bool, true, false, not, ◌&&◌, ◌||◌, nat_lt, nat_le, if◌then◌else◌, List, [], length, map, Option, Some, None, Contains, slice_get}
 use Rattle.launch_text.specs.declared.launch.ArgLine.{ArgLine}
-use Rattle.launch_text.specs.Rules.{LoadedLaunch, Parameter, BufferPointer, Taken, BrokenRule, broken, given_to, is_of_kind, has_other_elements, is_restricted, has_buffer_of_another, sum_before, breaks_at, breaks_whole, Breaks, IsLeastBroken, KeepsRules}
+use Rattle.launch_text.specs.Rules.{LoadedLaunch, Parameter, BufferPointer, Taken, required_by, BrokenRule, broken, given_to, is_of_kind, has_other_elements, is_restricted, has_buffer_of_another, sum_before, breaks_at, breaks_whole, Breaks, IsLeastBroken, KeepsRules}
 use Rattle.launch_text.specs.declared.launch.ArgKind.{ArgKind}
 use Rattle.launch_text.specs.WorkItems.{sizes_of}
 use Rattle.spv_meaning.specs.Start.{Bound, Specialised, Start}
@@ -23,7 +23,7 @@ use Rattle.vk_bind.specs.declared.start.BindStop.TheVariants.{Fault, NoMemory}
 use Rattle.vk_bind.specs.declared.start.Bound.{Bound as Pair}
 use Rattle.vk_bind.specs.declared.start.Spec.{Spec}
 use Rattle.vk_bind.specs.declared.start.Start.{Start as Begin}
-use Rattle.vk_bind.specs.Binding.{array_of, required_by, taken_of, kernel_among}
+use Rattle.vk_bind.specs.Binding.{array_of, taken_of, kernel_among}
 use Rattle.vk_bind.specs.Elements.{element_in}
 
 -- ---- what values of the code mean

@@ -6,7 +6,7 @@ use Rattle.spv_module.specs.declared.enumerant.decoration.TheConstants as decora
 use Rattle.spv_module.specs.Options.{◌>>=◌, for_each, is_there}
 use Rattle.launch_text.specs.declared.launch.ArgLine.{ArgLine}
 use Rattle.launch_text.specs.WorkItems.{Sizes, sizes_of}
-use Rattle.launch_text.specs.Rules.{LoadedLaunch, Element, Parameter, BufferPointer, Taken, KeepsRules, buffer_given}
+use Rattle.launch_text.specs.Rules.{LoadedLaunch, Element, Parameter, BufferPointer, Taken, required_by, KeepsRules, buffer_given}
 use Rattle.spv_meaning.specs.Start.{Bound, Specialised, Start}
 use Rattle.spv_module.specs.Instructions.{definition_in, decoration_in}
 use Rattle.spv_module.specs.Interface.{is_bound_at, variables_in, pointee_by, number_of}
@@ -44,10 +44,6 @@ abbrev pub parameter_of : List Inst → ArgRow → Option Parameter
 parameter_of body row = parameter_by body row.kind
 
 -- What a kernel takes, by its row. No opcode so far says the size of a group (LocalSize).
-abbrev pub required_by : Option (List ℕ) → List Sizes
-required_by None = []
-required_by (Some s) = sizes_of s ∷ []
-
 abbrev pub taken_of : List Inst → KernelRow → Option Taken
 taken_of body row = for_each (parameter_of body) row.args >>= λ parameters. Some (record { parameters = parameters; required = required_by row.required })
 

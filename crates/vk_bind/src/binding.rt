@@ -2,10 +2,10 @@
 
 ghost use Rattle.std.specs.Prelude.{◌≡◌, ℕ, ◌<◌, ◌^◌, List, length, Some, [], ◌++◌, IfOk, IfErr, OnOk, option_to_list};
 ghost use Rattle.launch_text.specs.Readable.{IsReadable};
-ghost use Rattle.launch_text.specs.Rules.{loaded, buffer_given, broken, Taken};
+ghost use Rattle.launch_text.specs.Rules.{loaded, buffer_given, broken, Taken, required_by};
 ghost use Rattle.spv_reflect.specs.Reflection.{rows_of};
 ghost use Rattle.vk_bind.specs.Answers.{taken_from, start_from, bounds_from, specs_from, rule_from, IsStopOf, IsAccepted, Keeps, Decides, FindsWhole, Suits, UnbrokenIsKept, KeptIsUnbroken};
-ghost use Rattle.vk_bind.specs.Binding.{taken_of, required_by, BindsTo, takes_in, bound_by, bound_from, specialised_by};
+ghost use Rattle.vk_bind.specs.Binding.{taken_of, BindsTo, takes_in, bound_by, bound_from, specialised_by};
 ghost use Rattle.launch_text.specs.WorkItems.{sizes_of};
 
 use crate::parameters::{Parameter, kernel_row, parameters};

@@ -6,10 +6,9 @@ ghost use Rattle.std.specs.List.{list_all, list_any};
 ghost use Rattle.launch_text.specs.declared.launch.ArgKind.{ArgKind};
 ghost use Rattle.launch_text.specs.Readable.{IsReadable};
 ghost use Rattle.launch_text.specs.Rules as spec;
-ghost use Rattle.launch_text.specs.Rules.{loaded};
+ghost use Rattle.launch_text.specs.Rules.{loaded, required_by};
 ghost use Rattle.launch_text.specs.WorkItems.{sizes_of, volume};
 ghost use Rattle.vk_bind.specs.Answers.{scalars_of, parameter_from, parameters_from, taken_from, alone_by, alone_at, Finds, FindsMissing, FindsPast, SumAfter, number_by, sooner, sum_within};
-ghost use Rattle.vk_bind.specs.Binding.{required_by};
 
 use crate::elements::Scalar;
 use crate::parameters::Parameter;
