@@ -17,7 +17,7 @@ use Rattle.spv_reflect.specs.declared.rows.ArgKindRow.TheVariants.{Buffer as Buf
 use Rattle.spv_meaning.specs.Start.{Start}
 use Rattle.launch_text.specs.Rules.{buffer_given}
 use Rattle.vk_bind.specs.Binding.{BindsTo, bound_by}
-use Rattle.spv_meaning.specs.Worlds.{module_world}
+use Rattle.spv_meaning.specs.Worlds.{Buffers, after_event, module_world}
 use Rattle.clv_engine.specs.LaunchWorlds.{shared_of, source_world, WorldSimulation}
 use Rattle.launch_text.specs.Rules.{size_of}
 use Rattle.spv_module.specs.Options.{or_default}
@@ -134,23 +134,30 @@ item_simulation k kernel = record {
   serves = λ l start n f b low. moments (source_item (surroundings_of l n)) (invocation (given_of (body_of k) start n)) (in_function start.function) weight 256 (first_state k) (first_run (given_of (body_of k) start n)) (item_follows k l start n kernel f b);
 }
 
+-- both have one memory
+abbrev SameBuffers : Buffers → Buffers → Type 0
+SameBuffers old new = old ≡ new
+
 -- nothing is a barrier
 no_chain : {A : Type 0} (k : List ℕ) → None ≡ Some k → A
 no_chain k e = absurd (let c : None ≡ Some k = e in cc)
 
-worlds_serve : (k : Kernel) (l : LoadedLaunch) (start : Start) → IsKernel k → Fits k l → BindsTo (body_of k) l start → Serves (shared_of l) (source_world k l start.function) (module_world (body_of k) start) 256
+worlds_serve : (k : Kernel) (l : LoadedLaunch) (start : Start) → IsKernel k → Fits k l → BindsTo (body_of k) l start → Serves (shared_of l) (shared_of l) (source_world k l start.function) (module_world (body_of k) start) (in_function start.function) (λ seen. seen) SameBuffers 256
 worlds_serve k l start kernel f b = record {
+  count = refl;
+  group = λ n. refl;
   follows = λ n low. item_follows k l start n kernel f b;
   words = λ asked. refl;
   chain = λ chain. chain;
   meets = λ asked chain e. no_chain chain e;
   open_gate = λ asked e. refl;
   tells = λ asked asked2 chain chain2 same e e2. no_chain chain e;
+  alike = λ n asked old new low can gate same. record { denies = λ e. e; reply = λ e. refl; leave = λ e. ap (after_event asked.event) same };
   denied = refl;
 }
 
 pub world_simulation : (k : Kernel) → IsKernel k → WorldSimulation (body_of k) k
 world_simulation k kernel = record {
-  worlds = λ l start f b defined. simulated (shared_of l) (source_world k l start.function) (module_world (body_of k) start) 256 (worlds_serve k l start kernel f b) l.buffers defined;
+  worlds = λ l start f b defined. simulated (shared_of l) (shared_of l) (source_world k l start.function) (module_world (body_of k) start) (in_function start.function) (λ seen. seen) SameBuffers 256 (worlds_serve k l start kernel f b) l.buffers l.buffers refl defined;
   defined = λ l function f room. each_defined k l function kernel f room;
 }

@@ -42,7 +42,7 @@ one_more p i x n hs lt =
     omega (arith, a, b)
 
 -- what holds of each item's steps holds of their sums
-pub sums : {S T E F G : Type 0} (a : Program S E F) (b : Program T F G) (worth n : ℕ) (gs hs : ℕ → List ℕ) → ((i : ℕ) → i < n → item_steps b i (hs i) ≤ worth * item_steps a i (gs i)) → steps_of b n hs ≤ worth * steps_of a n gs
+pub sums : {S T E D F G : Type 0} (a : Program S E F) (b : Program T D G) (worth n : ℕ) (gs hs : ℕ → List ℕ) → ((i : ℕ) → i < n → item_steps b i (hs i) ≤ worth * item_steps a i (gs i)) → steps_of b n hs ≤ worth * steps_of a n gs
 sums a b worth zero gs hs each = omega arith
 sums a b worth (suc n) gs hs each =
     let rest = sums a b worth n gs hs (λ i low. each i (omega (arith, low))) in
