@@ -2,3 +2,4 @@ pub mod Bytes
 pub mod Events
 pub mod Operators
 pub mod SharedMemory
+pub mod Types

@@ -1,5 +1,5 @@
 -- Operators on whole values, each by the patterns of its scalars, and the work-item functions.
-use Rattle.std.specs.Prelude.{ℕ, zero, suc, if◌then◌else◌, List, [], ◌∷◌, ◌++◌, map, length, replicate, slice_index}
+use Rattle.std.specs.Prelude.{ℕ, zero, suc, ◌%◌, ◌^◌, if◌then◌else◌, List, [], ◌∷◌, ◌++◌, map, length, replicate, slice_index}
 use Rattle.cl_types.specs.declared.types.ClType.{ClType}
 use Rattle.cl_types.specs.declared.types.Member.{Member}
 use Rattle.cl_types.specs.declared.types.TypeId.{TypeId}
@@ -8,13 +8,17 @@ use Rattle.cl_types.specs.declared.builtin.Builtin.TheVariants as builtin
 use Rattle.cl_types.specs.Layout.{scalars_of}
 use Rattle.cl_types.specs.Table.{tree_of}
 use Rattle.cl_builtins.specs.declared.kind.Gentype.{Gentype}
-use Rattle.cl_builtins.specs.Values.{value_of, reread_of, any_of, all_of}
+use Rattle.cl_builtins.specs.Values.{takes_widths, value_of, reread_of, any_of, all_of}
 use Rattle.cl_tree.specs.declared.shape.Shape.{Shape}
 use Rattle.cl_tree.specs.declared.shape.Shape.TheVariants as shape
 use Rattle.cl_tree.specs.Shapes.{shape_of, same_type, members_of}
 use Rattle.cl_tree.specs.Constants.{gentype_in}
 use Rattle.launch_text.specs.declared.launch.LaunchSizes.{LaunchSizes}
 use Rattle.launch_text.specs.WorkItems.{work_dim_of, global_size_of, local_size_of, global_id_of, num_groups_of, group_id_of, local_id_of, global_offset_of}
+
+-- the low bits of a number
+abbrev pub cut : ℕ → ℕ → ℕ
+cut bits n = n % 2 ^ bits
 
 -- f k, f (k + 1) and so on, so many
 abbrev pub each_from : {A : Type 0} → (ℕ → A) → ℕ → ℕ → List A
@@ -72,11 +76,15 @@ abbrev pub component_at : ℕ → List ℕ → ℕ
 component_at k (n ∷ []) = n
 component_at k ns = slice_index ns k
 
+-- A function on components of so many bits makes its value of the low bits of each; where it doesn't take them, which no unit has, it is 0.
+abbrev pub component_value : Builtin → Gentype → List ℕ → ℕ
+component_value f from ns = if takes_widths f (map (λ n. from.bits) ns) then value_of f from.bits from.signed (map (cut from.bits) ns) else 0
+
 abbrev pub applied : Builtin → Gentype → Gentype → List (List ℕ) → List ℕ
-applied builtin.As from to (ns ∷ nss) = reread_of from.bits to.bits to.count ns
+applied builtin.As from to (ns ∷ nss) = reread_of from.bits to.bits to.count (map (cut from.bits) ns)
 applied builtin.Any from to (ns ∷ nss) = any_of from.bits ns ∷ []
 applied builtin.All from to (ns ∷ nss) = all_of from.bits ns ∷ []
-applied f from to nss = each_from (λ k. value_of f from.bits from.signed (map (component_at k) nss)) 0 to.count
+applied f from to nss = each_from (λ k. component_value f from (map (component_at k) nss)) 0 to.count
 
 abbrev pub gentype_at : List ClType → TypeId → Gentype
 gentype_at cs t = gentype_in (shape_of cs t)

@@ -1,5 +1,5 @@
 -- What comes of a task (C99, 6.5 and 6.8; OpenCL C 1.2, 6.3 and 6.12).
-use Rattle.std.specs.Prelude.{ℕ, ◌+◌, ◌%◌, ◌^◌, nat_eq, max, not, Bool, true, false, if◌then◌else◌, List, [], ◌∷◌, ◌++◌, map, reverse, length, drop, Option, Some, None, slice_get, slice_index}
+use Rattle.std.specs.Prelude.{ℕ, ◌+◌, nat_eq, max, not, Bool, true, false, if◌then◌else◌, List, [], ◌∷◌, ◌++◌, map, reverse, length, drop, Option, Some, None, slice_get, slice_index}
 use Rattle.cl_types.specs.declared.types.ClType.{ClType}
 use Rattle.cl_types.specs.declared.operator.BinOp.{BinOp}
 use Rattle.cl_types.specs.declared.builtin.Builtin.{Builtin}
@@ -11,8 +11,8 @@ use Rattle.cl_tree.specs.declared.event.Event.TheVariants as event
 use Rattle.cl_tree.specs.declared.shape.Shape.{Shape}
 use Rattle.cl_tree.specs.declared.shape.Shape.TheVariants as shape
 use Rattle.cl_tree.specs.Shapes.{shape_of}
-use Rattle.cl_tree.specs.Constants.{component_of, yes_of, truth}
-use Rattle.cl_common.specs.Operators.{grid_value, arguments_of}
+use Rattle.cl_tree.specs.Constants.{number_by, truth}
+use Rattle.cl_common.specs.Operators.{cut, grid_value, arguments_of}
 use Rattle.obj_tree.specs.Code.{Expr, Stmts, Label, Default, Case, Sections, NoSection, AndSection, Code}
 use Rattle.obj_tree.specs.Places.{Object, InShared, InPrivate, Place, Lies, Extent, There, accessed}
 use Rattle.obj_tree.specs.Operations.{Entry, Value, Placed, newest, index_of, operated, Convert}
@@ -34,9 +34,6 @@ with_stack st i = record i { stack = st }
 -- the newest value has one scalar more
 abbrev pub appended : List ℕ → List Entry → Item → ℕ → Item
 appended v st i n = with_stack (Value (v ++ n ∷ []) ∷ st) i
-
-abbrev pub cut : ℕ → ℕ → ℕ
-cut bits n = n % 2 ^ bits
 
 abbrev pub operate_effect : Item → Option (List Entry) → Effect
 operate_effect i None = Undefined
@@ -79,7 +76,7 @@ specified bits to (Some n) = Goes (to n)
 
 abbrev pub component_effect : BinOp → Gentype → ℕ → Item → List Entry → Effect
 component_effect op t k i (Value v ∷ Value b ∷ Value a ∷ st) =
-    specified t.bits (appended v (Value b ∷ Value a ∷ st) i) (component_of op t.bits t.signed (yes_of t) (slice_index a k) (slice_index b k))
+    specified t.bits (appended v (Value b ∷ Value a ∷ st) i) (number_by op t (slice_index a k) (slice_index b k))
 component_effect op t k i st = Goes i
 
 -- ---- variables

@@ -2,7 +2,6 @@
 -- left to right, and a place before its value.
 use Rattle.std.specs.Prelude.{ℕ, ◌+◌, ◌-◌, ◌*◌, max, nat_eq, nat_lt, not, ◌&&◌, ◌||◌, Bool, true, false, if◌then◌else◌, List, [], ◌∷◌, ◌++◌, length, map, replicate, take, drop, Option, Some, None}
 use Rattle.cl_types.specs.declared.types.ClType.{ClType}
-use Rattle.cl_types.specs.declared.types.Member.{Member as StructMember}
 use Rattle.cl_types.specs.declared.types.TypeId.{TypeId}
 use Rattle.cl_types.specs.declared.operator.UnOp.{UnOp}
 use Rattle.cl_types.specs.declared.operator.UnOp.TheVariants as un
@@ -15,14 +14,15 @@ use Rattle.cl_builtins.specs.Kinds.{int}
 use Rattle.cl_tree.specs.declared.event.NodeId.{NodeId}
 use Rattle.cl_tree.specs.declared.shape.Shape.{Shape}
 use Rattle.cl_tree.specs.declared.shape.Shape.TheVariants as shape
-use Rattle.cl_tree.specs.Shapes.{shape_of, is_array, is_number, is_vector, promoted, members_of}
+use Rattle.cl_tree.specs.Shapes.{shape_of, is_array, is_number, members_of}
 use Rattle.cl_tree.specs.Constants.{count_in, gentype_in}
 use Rattle.cl_common.specs.Operators.{each_from, gentype_at}
+use Rattle.cl_common.specs.Types.{count_at, elements_in, member_types, promoted_in, working}
 use Rattle.obj_tree.specs.declared.object.Root.{Root}
 use Rattle.obj_tree.specs.declared.object.Root.TheVariants as root
 use Rattle.obj_tree.specs.Code.{Node, Expr, Exprs, Tree, NoExpr, AndExpr, Place, NoPlace, At, Steps, NoStep, AndMember, AndIndex, AndSingle, AndComponents}
 use Rattle.obj_tree.specs.Code as code
-use Rattle.obj_tree.specs.Places.{slots_at, There, Row}
+use Rattle.obj_tree.specs.Places.{There, Row}
 use Rattle.obj_tree.specs.Operations.{Value, Push, Drop, DropSecond, Swap, Keep, Sure, Convert, Unary, Slice, Components, Element, Vector, Fill, Apply}
 use Rattle.obj_tree.specs.Tasks.{Want, IntoMember, ByIndex, BySingle, IntoComponents, Act, Pass, Aim, Read, Write, Component, Enter, WorkItem, Wait, Atomic, Unless, Choose, Price, Small, Middle, Long, Other, instructions, Task, Step, Quiet, step, quiet, steps, making}
 
@@ -80,32 +80,9 @@ and_index o f = record { wants = f.wants; tasks = used o ++ f.tasks; is_indexed 
 
 -- ---- words on types
 
-abbrev pub promoted_in : Shape → Shape
-promoted_in shape.Bool = shape.Integers int
-promoted_in (shape.Integers t) = shape.Integers (promoted t)
-promoted_in s = s
-
-abbrev pub is_shift : BinOp → Bool
-is_shift bin.Shl = true
-is_shift bin.Shr = true
-is_shift _ = false
-
--- The type in which `a op= b` calculates: that of a vector; of a shift the promoted type of a; else b's, which is converted to it already
--- (C99, 6.5.7, 6.5.16.2; OpenCL C 1.2, 6.3.j).
-abbrev pub working : BinOp → Shape → Shape → Shape
-working op left right = if is_vector left then left else if is_shift op then promoted_in left else right
-
 -- 1, or a vector of it
 abbrev pub ones : Shape → List Task
 ones s = quiet (Push (Value (replicate (count_in s) 1))) ∷ []
-
-abbrev pub elements_in : Shape → ℕ
-elements_in (shape.Array elem len nested) = len
-elements_in _ = 0
-
-abbrev pub member_types : List StructMember → List TypeId
-member_types [] = []
-member_types (m ∷ ms) = m.ty ∷ member_types ms
 
 -- ---- what steps cost
 
@@ -163,15 +140,12 @@ costs_of [] = 0
 costs_of (o ∷ os) = o.costs + costs_of os
 
 module _ (cs : List ClType) where
-  abbrev pub count_at : TypeId → ℕ
-  count_at t = length (slots_at cs t)
-
   abbrev pub shape_at : Operand → Shape
   shape_at o = shape_of cs o.ty
 
   abbrev pub total : List TypeId → ℕ
   total [] = 0
-  total (t ∷ ts) = count_at t + total ts
+  total (t ∷ ts) = count_at cs t + total ts
 
   abbrev pub shapes_of : List Operand → List Shape
   shapes_of [] = []
@@ -230,10 +204,10 @@ module _ (cs : List ClType) where
   -- Each scalar takes one step for all of this.
   abbrev pub changes : Price → BinOp → TypeId → Shape → List Task → List Task → List Task
   changes p op ty inner kept right =
-      reads Quiet (count_at ty) ++ (kept ++ (quiet (Convert (shape_of cs ty) inner) ∷ right ++ (calculates Quiet op (gentype_in inner) ++ quiet (Convert inner (shape_of cs ty)) ∷ writes p (count_at ty))))
+      reads Quiet (count_at cs ty) ++ (kept ++ (quiet (Convert (shape_of cs ty) inner) ∷ right ++ (calculates Quiet op (gentype_in inner) ++ quiet (Convert inner (shape_of cs ty)) ∷ writes p (count_at cs ty))))
 
   abbrev pub sets : Price → TypeId → Operand → List Task
-  sets p ty b = used b ++ (writes p (count_at ty) ++ quiet DropSecond ∷ [])
+  sets p ty b = used b ++ (writes p (count_at cs ty) ++ quiet DropSecond ∷ [])
 
   abbrev pub changes_by : Price → BinOp → TypeId → Operand → List Task
   changes_by p op ty b = changes p op ty (working op (shape_of cs ty) (shape_at b)) [] (used b) ++ quiet DropSecond ∷ []
@@ -249,14 +223,14 @@ module _ (cs : List ClType) where
 
   -- a node that has its scalars from an operand makes one step at least
   abbrev pub copied : Price → TypeId → List Task
-  copied p ty = steps p (max 1 (count_at ty))
+  copied p ty = steps p (max 1 (count_at cs ty))
 
   abbrev pub converts : Price → TypeId → Operand → List Task
-  converts p ty a = used a ++ making p (count_at ty) (Convert (shape_at a) (shape_of cs ty))
+  converts p ty a = used a ++ making p (count_at cs ty) (Convert (shape_at a) (shape_of cs ty))
 
   -- `+`, `-`, `~` and `!`
   abbrev pub negates : Price → UnOp → TypeId → Operand → List Task
-  negates p op ty a = used a ++ making p (count_at ty) (Unary op (gentype_at cs a.ty).bits)
+  negates p op ty a = used a ++ making p (count_at cs ty) (Unary op (gentype_at cs a.ty).bits)
 
   abbrev pub binary : BinOp → Price → Operand → Operand → List Task
   binary bin.LogicalAnd p a b = used a ++ Quiet (Unless false b.tree) ∷ Step p Pass ∷ []
@@ -265,10 +239,10 @@ module _ (cs : List ClType) where
 
   -- parts of a value
   abbrev pub element_value : Price → TypeId → Operand → Operand → List Task
-  element_value p ty a i = used a ++ (used i ++ making p (count_at ty) (Element (shape_at i) (count_at ty) (elements_in (shape_at a))))
+  element_value p ty a i = used a ++ (used i ++ making p (count_at cs ty) (Element (shape_at i) (count_at cs ty) (elements_in (shape_at a))))
 
   abbrev pub member_value : Price → ℕ → TypeId → Operand → List Task
-  member_value p k ty a = used a ++ making p (count_at ty) (Slice (total (take k (member_types (members_of cs a.ty)))) (count_at ty))
+  member_value p k ty a = used a ++ making p (count_at cs ty) (Slice (total (take k (member_types (members_of cs a.ty)))) (count_at cs ty))
 
   -- ---- calls
 
@@ -292,7 +266,7 @@ module _ (cs : List ClType) where
 
   -- the steps in which the node makes the scalars of the result
   abbrev pub result_steps : TypeId → List Operand → List Operand → ℕ
-  result_steps ty plain indices = max (1 - passed plain indices) (count_at ty)
+  result_steps ty plain indices = max (1 - passed plain indices) (count_at cs ty)
 
   -- A fence changes nothing. Its step passes the flags.
   abbrev pub fence : Price → List Operand → List Task
@@ -346,13 +320,13 @@ module _ (cs : List ClType) where
   built_in builtin.AtomicInc p ty from finds os = atomic p builtin.AtomicInc false finds os
   built_in builtin.AtomicDec p ty from finds os = atomic p builtin.AtomicDec false finds os
   built_in builtin.AtomicCmpxchg p ty from finds os = atomic p builtin.AtomicCmpxchg false finds os
-  built_in f p ty from finds os = passes p os ++ making p (count_at ty) (Apply f (length os) (first_gentype (types_of os)) (gentype_at cs ty))
+  built_in f p ty from finds os = passes p os ++ making p (count_at cs ty) (Apply f (length os) (first_gentype (types_of os)) (gentype_at cs ty))
 
   -- ---- expressions
 
   -- what gives the value of a node with this price for its steps, at a place that the tasks `finds` find and where a scalar costs `access`
   abbrev pub gives_of : Node → TypeId → (Price → Price) → Price → List Task → List Operand → List Task
-  gives_of code.Read ty price access finds os = finds ++ (reads (Step access) (count_at ty) ++ quiet DropSecond ∷ [])
+  gives_of code.Read ty price access finds os = finds ++ (reads (Step access) (count_at cs ty) ++ quiet DropSecond ∷ [])
   gives_of (code.Assign None) ty price access finds (b ∷ os) = finds ++ sets access ty b
   gives_of (code.Assign (Some op)) ty price access finds (b ∷ os) = finds ++ changes_by (price Other) op ty b
   gives_of (code.Number n) ty price access finds os = step Small (Push (Value (n ∷ []))) ∷ []
@@ -364,13 +338,13 @@ module _ (cs : List ClType) where
   gives_of (code.Unary op) ty price access finds (a ∷ os) = negates (price (unary_price op (shape_at a))) op ty a
   gives_of (code.Binary op) ty price access finds (a ∷ b ∷ os) = binary op (price (binary_price op (shape_at a))) a b
   gives_of code.Cond ty price access finds (test ∷ on_true ∷ on_false ∷ os) = used test ++ Quiet (Choose on_true.tree on_false.tree) ∷ copied (price (chosen_price (shape_of cs ty))) ty
-  gives_of code.Vector ty price access finds os = all_used os ++ making (price Other) (count_at ty) (Vector (length os) (count_at ty))
+  gives_of code.Vector ty price access finds os = all_used os ++ making (price Other) (count_at cs ty) (Vector (length os) (count_at cs ty))
   gives_of (code.Call copy plain privates from) ty price access finds os = call copy privates from (take plain os) (drop plain os)
   gives_of (code.Builtin f from) ty price access finds os = built_in f (price Other) ty from finds os
   gives_of code.Index ty price access finds (a ∷ i ∷ os) = element_value (price Other) ty a i
   gives_of (code.Member k) ty price access finds (a ∷ os) = member_value (price Other) k ty a
   gives_of (code.Components at) ty price access finds (a ∷ os) = used a ++ making (price Other) (length at) (Components at)
-  gives_of code.Fill ty price access finds os = all_used os ++ making (price Other) (count_at ty) (Fill (types_of os) ty)
+  gives_of code.Fill ty price access finds os = all_used os ++ making (price Other) (count_at cs ty) (Fill (types_of os) ty)
   gives_of code.Comma ty price access finds os = commas os ++ copied (price Small) ty
   gives_of _ ty price access finds os = []
 

@@ -17,7 +17,8 @@ use Rattle.cl_common.specs.Events.{Asked, gate_of}
 use Rattle.obj_tree.specs.declared.program.Copy.{Copy}
 use Rattle.obj_tree.specs.declared.program.KernelInfo.{KernelInfo}
 use Rattle.obj_tree.specs.Code.{Code, code_of}
-use Rattle.obj_tree.specs.Places.{OneIndex, slots_at}
+use Rattle.cl_common.specs.Types.{slots_at}
+use Rattle.obj_tree.specs.Places.{OneIndex}
 use Rattle.obj_tree.specs.Tasks.{Step, Pass, Other}
 use Rattle.obj_tree.specs.Statements.{copy_tasks}
 use Rattle.obj_tree.specs.States.{Surroundings, Cells, Memory, Item, no_cells, with_object, with_values}

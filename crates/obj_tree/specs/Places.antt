@@ -4,7 +4,7 @@ use Rattle.cl_types.specs.declared.types.ClType.{ClType}
 use Rattle.cl_types.specs.declared.types.Member.{Member as StructMember}
 use Rattle.cl_types.specs.declared.types.TypeId.{TypeId}
 use Rattle.cl_types.specs.declared.scalars.Scalar.{Scalar as Slot}
-use Rattle.cl_types.specs.Layout.{size_of, scalars_of, offset_of}
+use Rattle.cl_types.specs.Layout.{offset_of}
 use Rattle.cl_types.specs.Table.{tree_of}
 use Rattle.cl_tree.specs.declared.event.NodeId.{NodeId}
 use Rattle.cl_tree.specs.declared.event.Shared.{Shared}
@@ -12,6 +12,7 @@ use Rattle.cl_tree.specs.declared.shape.Shape.{Shape}
 use Rattle.cl_tree.specs.declared.shape.Shape.TheVariants as shape
 use Rattle.cl_tree.specs.Shapes.{shape_of, members_of}
 use Rattle.cl_common.specs.Events.{same_nodes}
+use Rattle.cl_common.specs.Types.{size_at, slots_at}
 
 -- ---- objects
 
@@ -67,12 +68,6 @@ at_start (OneValue ty) = OneOf ty
 at_start OneIndex = Word
 
 -- ---- types
-
-abbrev pub size_at : List ClType → TypeId → ℕ
-size_at cs t = size_of (tree_of cs t.0)
-
-abbrev pub slots_at : List ClType → TypeId → List Slot
-slots_at cs t = scalars_of (tree_of cs t.0)
 
 abbrev pub bits_in : List Slot → ℕ
 bits_in [] = 0

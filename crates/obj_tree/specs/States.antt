@@ -15,7 +15,8 @@ use Rattle.cl_common.specs.Events.{same_nodes}
 use Rattle.obj_tree.specs.declared.object.Root.{Root}
 use Rattle.obj_tree.specs.declared.object.Root.TheVariants as root
 use Rattle.obj_tree.specs.Code.{Code}
-use Rattle.obj_tree.specs.Places.{Name, same_name, Object, InShared, InPrivate, Whole, Elements, OneValue, OneIndex, Hop, Member, Index, Single, Components, Place, size_at, slots_at}
+use Rattle.cl_common.specs.Types.{size_at, slots_at}
+use Rattle.obj_tree.specs.Places.{Name, same_name, Object, InShared, InPrivate, Whole, Elements, OneValue, OneIndex, Hop, Member, Index, Single, Components, Place}
 use Rattle.obj_tree.specs.Operations.{Entry, Value, index_of}
 use Rattle.obj_tree.specs.Tasks.{Want, IntoMember, ByIndex, BySingle, IntoComponents, Task}
 
