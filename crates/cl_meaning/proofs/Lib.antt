@@ -1,4 +1,11 @@
 mod Samples
+pub mod Newest
+pub mod Joining
+pub mod Trees
+pub mod Calls
+pub mod Fillings
+pub mod Rereading
+pub mod Applications
 pub mod Plain
 pub mod Loops
 pub mod Operands
@@ -8,3 +15,22 @@ pub mod Steady
 pub mod Runs
 pub mod Meetings
 pub mod Bodies
+pub mod Operating
+pub mod Privates
+pub mod Accesses
+pub mod Narrowing
+pub mod Beginnings
+pub mod Replacing
+pub mod LowBytes
+pub mod Emptying
+pub mod Setting
+pub mod Turns
+pub mod Callings
+pub mod Controls
+pub mod Unrolled
+pub mod Numberings
+pub mod Kernels
+pub mod Placings
+pub mod Unfolded
+pub mod OneByOne
+pub mod Componentwise

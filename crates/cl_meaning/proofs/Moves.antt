@@ -1,5 +1,5 @@
 -- What one move does to what is left to do, and to the calls.
-use Rattle.std.proofs.Common.{◌≡◌, ℕ, zero, suc, ◌+◌, ◌≤◌, max, Bool, true, false, if◌then◌else◌, List, [], ◌∷◌, ◌++◌, length, drop, Option, Some, None, refl, sym, ap, ◌∙◌, subst, arith, append_assoc}
+use Rattle.std.proofs.Common.{◌&&◌, ◌≡◌, ℕ, zero, suc, ◌+◌, ◌≤◌, max, Bool, true, false, if◌then◌else◌, List, [], ◌∷◌, ◌++◌, length, drop, Option, Some, None, refl, sym, ap, ◌∙◌, subst, arith, append_assoc}
 use Rattle.std.specs.Prelude.{slice_get}
 use Rattle.cl_types.specs.declared.types.ClType.{ClType}
 use Rattle.cl_types.specs.declared.types.TypeId.{TypeId}
@@ -16,7 +16,7 @@ use Rattle.cl_meaning.specs.Tasks.{Act, Reach, Pass, Operate, Variable, Recall, 
 use Rattle.cl_meaning.specs.Expressions.{type_of, uses, may_drop}
 use Rattle.cl_meaning.specs.Statements.{stmts_tasks, sections_tasks, body_tasks, test_tasks}
 use Rattle.cl_meaning.specs.States.{Surroundings, Around, InLoop, InSwitch, Caller, Item}
-use Rattle.cl_meaning.specs.Effects.{Effect, Goes, Picks, Questions, Undefined, extent_of, reads_in, read_effect, writes_in, write_effect, specified, component_effect, operate_effect, recall_effect, pointing, scalars_on, entered, left, atomic_at, atomic_effect, arguments_on, unless_effect, is_true, popped, first, pushed_truth, broken, continued, tested, is_case, is_default, some_label, from_label, or_else, switched, select_effect, effect_of, found, number_on, appended}
+use Rattle.cl_meaning.specs.Effects.{Effect, Goes, Picks, Questions, Undefined, extent_of, is_part_of, part_in, reads_in, read_effect, writes_in, write_effect, specified, component_effect, operate_effect, recall_effect, pointing, scalars_on, entered, left, atomic_at, atomic_effect, arguments_on, unless_effect, is_true, popped, first, pushed_truth, broken, continued, tested, is_case, is_default, some_label, from_label, or_else, switched, select_effect, effect_of, found, number_on, appended}
 use Rattle.cl_meaning.proofs.Loops.{IsBody, HasBodies, AllHaveBodies, SectionsHaveBodies, FunctionsHaveBodies}
 use Rattle.cl_meaning.proofs.Plain.{room, Ways, extra, lead, IsPlain, Each, each_append, steps_fine}
 use Rattle.cl_meaning.proofs.Operands.{uses_fine}
@@ -70,7 +70,7 @@ module _ (i : Item) where
   reads_keeps (InPrivate name) at bits to h j = found_keeps to h _
 
   read_keeps : (cs : List ClType) (ty : TypeId) (k : ℕ) (st : List Entry) → Kept (read_effect cs ty k i st)
-  read_keeps cs ty k (Value v ∷ Place p at ∷ st) = if_either Kept (is_inside (extent_of cs ty at) p) _ Undefined (reads_keeps p.object _ _ _ (λ x. record { todo = refl; around = refl; frame = refl; callers = refl }) i) tt
+  read_keeps cs ty k (Value v ∷ Place p at ∷ st) = if_either Kept (is_inside (extent_of cs ty at) p && is_part_of (extent_of cs ty at) (part_in cs ty at k)) _ Undefined (reads_keeps p.object _ _ _ (λ x. record { todo = refl; around = refl; frame = refl; callers = refl }) i) tt
   read_keeps cs ty k _ = same i
 
   writes_keeps : (o : Object) (at bits n : ℕ) → Kept (writes_in o at bits n i)
@@ -78,7 +78,7 @@ module _ (i : Item) where
   writes_keeps (InPrivate name) at bits n = record { todo = refl; around = refl; frame = refl; callers = refl }
 
   write_keeps : (cs : List ClType) (ty : TypeId) (k : ℕ) (st : List Entry) → Kept (write_effect cs ty k i st)
-  write_keeps cs ty k (Value v ∷ Place p at ∷ st) = if_either Kept (is_inside (extent_of cs ty at) p) _ Undefined (writes_keeps p.object _ _ _) tt
+  write_keeps cs ty k (Value v ∷ Place p at ∷ st) = if_either Kept (is_inside (extent_of cs ty at) p && is_part_of (extent_of cs ty at) (part_in cs ty at k)) _ Undefined (writes_keeps p.object _ _ _) tt
   write_keeps cs ty k _ = same i
 
   specified_keeps : (bits : ℕ) (to : ℕ → Item) → ((x : ℕ) → Stays i (to x)) → (n : Option ℕ) → Kept (specified bits to n)

@@ -13,10 +13,10 @@ use Rattle.cl_tree.specs.declared.shape.Shape.{Shape}
 use Rattle.cl_tree.specs.Shapes.{shape_of, is_pointer, is_array}
 use Rattle.cl_meaning.specs.Code.{Node, Expr, Exprs, Tree, NoExpr, AndExpr}
 use Rattle.cl_meaning.specs.Code as code
-use Rattle.cl_meaning.specs.Values.{count_at}
+use Rattle.cl_common.specs.Types.{count_at, promoted_in}
 use Rattle.cl_meaning.specs.Operations.{Operation, Drop, DropSecond, Swap, Keep, Sure, Follow, Address}
 use Rattle.cl_meaning.specs.Tasks.{Act, Pass, Operate, Recall, Point, Read, Write, Component, Unless, Task, Step, Quiet}
-use Rattle.cl_meaning.specs.Expressions.{Operand, used, all_used, named, of_variable, of_named, node_of, ones, shape_at, promoted_in, points, further, indexed, finds_of, is_place, is_call, reads, writes, calculates, changes, assigned, number_prefix, number_postfix, points_to, one_further, converts, prefix, postfix, unary, calculated, binary, dropped, commas, passes, fence, vector_load, vector_store, built_in, makes, loads, operand_in, operand_of, operands_of, uses, drops}
+use Rattle.cl_meaning.specs.Expressions.{Operand, used, all_used, named, of_variable, of_named, node_of, ones, shape_at, points, further, indexed, finds_of, is_place, is_call, reads, writes, calculates, changes, assigned, number_prefix, number_postfix, points_to, one_further, converts, prefix, postfix, unary, calculated, binary, dropped, commas, passes, fence, vector_load, vector_store, built_in, makes, loads, operand_in, operand_of, operands_of, uses, drops}
 use Rattle.cl_meaning.proofs.Plain.{room, rooms, IsPlain, IsSimple, Fine, none, more, both, stepped, quieted, either, behind_step, at_step, steps_fine, making_fine, each_step, each_quiet}
 
 op_fine : {ts : List Task} {n : ℕ} (op : Operation) → Fine ts n → Fine (Quiet (Operate op) ∷ ts) (suc n)

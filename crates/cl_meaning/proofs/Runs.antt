@@ -31,10 +31,10 @@ some_same a b e = cc
 
 -- ---- fuel
 
-no_fuel : (w fuel : ℕ) → fuel < w → spent w fuel ≡ None
+pub no_fuel : (w fuel : ℕ) → fuel < w → spent w fuel ≡ None
 no_fuel w fuel low = let b : nat_lt fuel w ≡ true = grind (arith, nat_tests) in ap (λ z. if z then None else Some (fuel - w)) b
 
-some_fuel : (w fuel : ℕ) → w ≤ fuel → spent w fuel ≡ Some (fuel - w)
+pub some_fuel : (w fuel : ℕ) → w ≤ fuel → spent w fuel ≡ Some (fuel - w)
 some_fuel w fuel high = let b : nat_lt fuel w ≡ false = grind (arith, nat_tests) in ap (λ z. if z then None else Some (fuel - w)) b
 
 more_fuel : (w fuel k : ℕ) → w ≤ fuel → spent w (fuel + k) ≡ Some (fuel - w + k)
@@ -217,7 +217,7 @@ module _ (s : Surroundings) (i : Item) (fuel left : ℕ) (enough : spent (weight
   there_live Ends is l answers = absurd l
   there_live Fails is l answers = absurd l
 
-weights : (ts : List Task) → (weight_by ts ≡ 0) ⊎ (weight_by ts ≡ 1)
+pub weights : (ts : List Task) → (weight_by ts ≡ 0) ⊎ (weight_by ts ≡ 1)
 weights [] = inl refl
 weights (Step a ∷ ts) = inr refl
 weights (Quiet a ∷ ts) = inl refl

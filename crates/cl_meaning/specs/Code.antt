@@ -3,9 +3,6 @@
 use Rattle.std.specs.Prelude.{ℕ, suc, ◌+◌, Bool, false, if◌then◌else◌, List, [], ◌∷◌, take, Option, Some, None, slice_get}
 use Rattle.cl_types.specs.declared.types.ClType.{ClType}
 use Rattle.cl_types.specs.declared.types.TypeId.{TypeId}
-use Rattle.cl_types.specs.declared.operator.UnOp.{UnOp}
-use Rattle.cl_types.specs.declared.operator.BinOp.{BinOp}
-use Rattle.cl_types.specs.declared.builtin.Builtin.{Builtin as Function}
 use Rattle.cl_tree.specs.declared.expression.TExpr.{TExpr}
 use Rattle.cl_tree.specs.declared.expression.TNode.TheOpen.{TNode-F, TExpr-F}
 use Rattle.cl_tree.specs.declared.expression.TNode.TheOpen as node
@@ -19,30 +16,12 @@ use Rattle.cl_tree.specs.declared.unit.Function.{Function as Defined}
 use Rattle.cl_tree.specs.Constants.{number_of}
 use Rattle.cl_tree.specs.Statements.{is_local}
 use Rattle.cl_tree.specs.Units.{types_of}
+pub use Rattle.cl_meaning.specs.declared.code.Node.{Node}
+pub use Rattle.cl_meaning.specs.declared.code.Node.TheVariants.{Param, Var, Local, Constant, Number, Convert, Unary, Binary, Assign, Cond, Vector, Call, Builtin, Index, Member, Components, Fill, Comma}
+pub use Rattle.cl_meaning.specs.declared.code.Label.{Label}
+pub use Rattle.cl_meaning.specs.declared.code.Label.TheVariants.{Default, Case}
 
 -- ---- expressions
-
--- What a node is: a parameter, a variable in private or in local memory, a constant of the unit, each by its number; a literal, by its pattern; and
--- so on, a selection with the numbers of its components in the order written.
-pub data Node : Type 0 where
-  Param : (k : ℕ) → Node
-  Var : (k : ℕ) → Node
-  Local : (k : ℕ) → Node
-  Constant : (k : ℕ) → Node
-  Number : (pattern : ℕ) → Node
-  Convert : Node
-  Unary : (op : UnOp) → Node
-  Binary : (op : BinOp) → Node
-  Assign : (op : Option BinOp) → Node
-  Cond : Node
-  Vector : Node
-  Call : (function : ℕ) → Node
-  Builtin : (function : Function) → Node
-  Index : Node
-  Member : (k : ℕ) → Node
-  Components : (at : List ℕ) → Node
-  Fill : Node
-  Comma : Node
 
 -- A node, its type, its number, and its operands in text order.
 mutual
@@ -102,11 +81,6 @@ abbrev pub numbered : List Variable → TExpr → Numbered
 numbered vars = fold-TExpr (TypeId → Numbered) Numbered (node_step vars) expr_step
 
 -- ---- statements
-
--- `default`, or a case by the pattern of its value, which each case of a unit has.
-pub data Label : Type 0 where
-  Default : Label
-  Case : (pattern : Option ℕ) → Label
 
 -- A declaration without an initialiser makes a private variable unset, and does nothing to one in local memory.
 mutual

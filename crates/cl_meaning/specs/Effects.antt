@@ -1,5 +1,5 @@
 -- What comes of a task (C99, 6.5 and 6.8; OpenCL C 1.2, 6.3 and 6.12).
-use Rattle.std.specs.Prelude.{ℕ, suc, ◌+◌, ◌*◌, ◌/◌, ◌%◌, ◌^◌, nat_eq, max, not, Bool, true, false, if◌then◌else◌, List, [], ◌∷◌, ◌++◌, map, reverse, length, drop, Option, Some, None, slice_get, slice_index}
+use Rattle.std.specs.Prelude.{ℕ, suc, ◌+◌, ◌*◌, ◌/◌, nat_eq, nat_le, ◌&&◌, max, not, Bool, true, false, if◌then◌else◌, List, [], ◌∷◌, ◌++◌, map, reverse, length, drop, Option, Some, None, slice_get, slice_index}
 use Rattle.cl_types.specs.declared.types.ClType.{ClType}
 use Rattle.cl_types.specs.declared.types.TypeId.{TypeId}
 use Rattle.cl_types.specs.declared.operator.BinOp.{BinOp}
@@ -9,13 +9,14 @@ use Rattle.cl_builtins.specs.declared.kind.Gentype.{Gentype}
 use Rattle.cl_builtins.specs.Kinds.{alike}
 use Rattle.cl_tree.specs.declared.shape.Shape.TheVariants as shape
 use Rattle.cl_tree.specs.Shapes.{shape_of}
-use Rattle.cl_tree.specs.Constants.{component_of, yes_of, truth}
-use Rattle.cl_common.specs.Operators.{grid_value, arguments_of}
+use Rattle.cl_tree.specs.Constants.{number_by, truth}
+use Rattle.cl_common.specs.Operators.{cut, grid_value, arguments_of}
 use Rattle.cl_meaning.specs.Code.{Expr, Stmts, Label, Default, Case, Sections, NoSection, AndSection, Code}
 use Rattle.cl_tree.specs.declared.event.Event.{Event}
 use Rattle.cl_tree.specs.declared.event.Event.TheVariants as event
 use Rattle.cl_common.specs.Bytes.{number_at, with_number}
-use Rattle.cl_meaning.specs.Values.{Name, Object, InShared, InPrivate, Pointer, whole_of, is_inside, Scalar, Pattern, Points, patterns_in, Entry, Value, Place, size_at, slots_at}
+use Rattle.cl_common.specs.Types.{size_at, slots_at}
+use Rattle.cl_meaning.specs.Values.{Name, Object, InShared, InPrivate, Pointer, whole_of, is_inside, Scalar, Pattern, Points, patterns_in, Entry, Value, Place}
 use Rattle.cl_meaning.specs.Operations.{newest, operated, Convert}
 use Rattle.cl_meaning.specs.Tasks.{Act, Reach, Pass, Operate, Variable, Recall, Point, Read, Write, Component, Enter, Leave, WorkItem, Wait, Atomic, Unless, Choose, Unset, Set, Decide, SelectSection, Test, Loop, LoopOnce, Break, Continue, Task, quiet, steps}
 use Rattle.cl_meaning.specs.Expressions.{type_of, uses, may_drop}
@@ -65,9 +66,6 @@ with_stack st i = record i { stack = st }
 abbrev pub appended : List Scalar → List Entry → Item → ℕ → Item
 appended v st i n = with_stack (Value (v ++ Pattern n ∷ []) ∷ st) i
 
-abbrev pub cut : ℕ → ℕ → ℕ
-cut bits n = n % 2 ^ bits
-
 abbrev pub found : (ℕ → Item) → Option ℕ → Effect
 found to None = Undefined
 found to (Some n) = Goes (to n)
@@ -81,17 +79,20 @@ abbrev pub writes_in : Object → ℕ → ℕ → ℕ → Item → Effect
 writes_in (InShared o) at bits n i = Questions (event.Write (record { object = o; offset = at; bits = bits }) n) (λ x. i)
 writes_in (InPrivate name) at bits n i = Goes (record i { memory = with_bytes name (with_number at (bits / 8) n (i.memory.bytes name)) i.memory })
 
--- An access outside of the array is undefined, before any of its scalars.
+-- An access outside of the array is undefined, before any of its scalars; each of these lies inside of what is accessed.
+abbrev pub is_part_of : ℕ → Part → Bool
+is_part_of extent part = nat_le (part.far + part.bits / 8) extent
+
 abbrev pub read_effect : List ClType → TypeId → ℕ → Item → List Entry → Effect
 read_effect cs ty k i (Value v ∷ Place p at ∷ st) =
     let part = part_in cs ty at k in
-    if is_inside (extent_of cs ty at) p then reads_in p.object (p.offset + part.far) part.bits (appended v (Place p at ∷ st) i) i else Undefined
+    if is_inside (extent_of cs ty at) p && is_part_of (extent_of cs ty at) part then reads_in p.object (p.offset + part.far) part.bits (appended v (Place p at ∷ st) i) i else Undefined
 read_effect cs ty k i st = Goes i
 
 abbrev pub write_effect : List ClType → TypeId → ℕ → Item → List Entry → Effect
 write_effect cs ty k i (Value v ∷ Place p at ∷ st) =
     let part = part_in cs ty at k in
-    if is_inside (extent_of cs ty at) p then writes_in p.object (p.offset + part.far) part.bits (slice_index (patterns_in v) k) i else Undefined
+    if is_inside (extent_of cs ty at) p && is_part_of (extent_of cs ty at) part then writes_in p.object (p.offset + part.far) part.bits (slice_index (patterns_in v) k) i else Undefined
 write_effect cs ty k i st = Goes i
 
 -- A quotient or remainder by zero or out of range is unspecified.
@@ -101,7 +102,7 @@ specified bits to (Some n) = Goes (to n)
 
 abbrev pub component_effect : BinOp → Gentype → ℕ → Item → List Entry → Effect
 component_effect op t k i (Value v ∷ Value b ∷ Value a ∷ st) =
-    specified t.bits (appended v (Value b ∷ Value a ∷ st) i) (component_of op t.bits t.signed (yes_of t) (slice_index (patterns_in a) k) (slice_index (patterns_in b) k))
+    specified t.bits (appended v (Value b ∷ Value a ∷ st) i) (number_by op t (slice_index (patterns_in a) k) (slice_index (patterns_in b) k))
 component_effect op t k i st = Goes i
 
 abbrev pub operate_effect : Item → Option (List Entry) → Effect

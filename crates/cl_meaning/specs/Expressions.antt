@@ -2,7 +2,6 @@
 -- the place of an assignment before its value.
 use Rattle.std.specs.Prelude.{ℕ, ◌+◌, ◌-◌, ◌/◌, max, ◌&&◌, ◌||◌, Bool, true, false, if◌then◌else◌, List, [], ◌∷◌, ◌++◌, length, replicate, take, Option, Some, None}
 use Rattle.cl_types.specs.declared.types.ClType.{ClType}
-use Rattle.cl_types.specs.declared.types.Member.{Member as StructMember}
 use Rattle.cl_types.specs.declared.types.TypeId.{TypeId}
 use Rattle.cl_types.specs.declared.operator.UnOp.{UnOp}
 use Rattle.cl_types.specs.declared.operator.UnOp.TheVariants as un
@@ -16,13 +15,14 @@ use Rattle.cl_builtins.specs.declared.kind.Gentype.{Gentype}
 use Rattle.cl_builtins.specs.Kinds.{int}
 use Rattle.cl_tree.specs.declared.shape.Shape.{Shape}
 use Rattle.cl_tree.specs.declared.shape.Shape.TheVariants as shape
-use Rattle.cl_tree.specs.Shapes.{shape_of, is_pointer, is_array, is_vector, promoted, members_of}
+use Rattle.cl_tree.specs.Shapes.{shape_of, is_pointer, is_array, members_of}
 use Rattle.cl_tree.specs.Constants.{count_in, gentype_in}
 use Rattle.cl_common.specs.Operators.{each_from, gentype_at}
 use Rattle.cl_meaning.specs.Code.{Node, Expr, Exprs, Tree, NoExpr, AndExpr, Stmt, Stmts, NoStmt, AndStmt, Sections, Code}
 use Rattle.cl_meaning.specs.Code as code
 use Rattle.cl_tree.specs.declared.event.Shared.TheVariants as shared
-use Rattle.cl_meaning.specs.Values.{Pattern, Value, Place, InShared, whole_of, size_at, count_at}
+use Rattle.cl_common.specs.Types.{size_at, count_at, elements_in, member_types, promoted_in, working}
+use Rattle.cl_meaning.specs.Values.{Pattern, Value, Place, InShared, whole_of}
 use Rattle.cl_meaning.specs.Operations.{Operation, Push, Drop, DropSecond, Swap, Keep, Sure, Follow, Address, Part, Select, Offset, Compare, Elements, Convert, Unary, Slice, Components, Element, Vector, Fill, Apply}
 use Rattle.cl_meaning.specs.Tasks.{Act, Pass, Variable, Recall, Point, Read, Write, Component, Enter, WorkItem, Wait, Atomic, Unless, Choose, Task, Step, Quiet, step, quiet, steps, making}
 
@@ -63,22 +63,7 @@ abbrev pub is_call : Node → Bool
 is_call (code.Call f) = true
 is_call _ = false
 
--- ---- words on types and variables
-
-abbrev pub promoted_in : Shape → Shape
-promoted_in shape.Bool = shape.Integers int
-promoted_in (shape.Integers t) = shape.Integers (promoted t)
-promoted_in s = s
-
-abbrev pub is_shift : BinOp → Bool
-is_shift bin.Shl = true
-is_shift bin.Shr = true
-is_shift _ = false
-
--- The type in which `a op= b` calculates: that of a vector; of a shift the promoted type of a; else b's, which is converted to it already
--- (C99, 6.5.7, 6.5.16.2; OpenCL C 1.2, 6.3.j).
-abbrev pub working : BinOp → Shape → Shape → Shape
-working op left right = if is_vector left then left else if is_shift op then promoted_in left else right
+-- ---- variables and operands
 
 -- 1, or a vector of it
 abbrev pub ones : Shape → List Task
@@ -92,14 +77,6 @@ of_variable act _ = Pass
 
 abbrev pub of_named : (Bool → ℕ → Act) → Operand → Act
 of_named act a = of_variable act (node_of a.tree)
-
-abbrev pub elements_in : Shape → ℕ
-elements_in (shape.Array elem len nested) = len
-elements_in _ = 0
-
-abbrev pub member_types : List StructMember → List TypeId
-member_types [] = []
-member_types (m ∷ ms) = m.ty ∷ member_types ms
 
 module _ (cs : List ClType) where
   abbrev pub shape_at : Operand → Shape
@@ -226,7 +203,7 @@ module _ (cs : List ClType) where
   unary un.PreDec ty a = prefix bin.Sub a
   unary un.PostInc ty a = postfix bin.Add a
   unary un.PostDec ty a = postfix bin.Sub a
-  unary op ty a = used a ++ making (count_at cs ty) (Unary op (gentype_at cs a.ty).bits)
+  unary op ty a = used a ++ making (count_at cs ty) (Unary op (gentype_at cs a.ty))
 
   abbrev pub calculated : BinOp → Operand → Operand → List Task
   calculated op a b =

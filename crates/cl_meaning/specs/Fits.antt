@@ -9,8 +9,9 @@ use Rattle.cl_tree.specs.declared.shape.Shape.TheVariants as shape
 use Rattle.cl_tree.specs.declared.unit.Function.{Function}
 use Rattle.cl_tree.specs.declared.unit.Variable.{Variable}
 use Rattle.cl_tree.specs.Shapes.{shape_of}
-use Rattle.launch_text.specs.Rules.{LoadedLaunch, IsLaunch, Parameter, BufferPointer, LocalPointer, PlainValue, Taken, required_by, KeepsRules}
-use Rattle.cl_meaning.specs.Values.{size_at, slots_at}
+use Rattle.launch_text.specs.WorkItems.{Sizes, sizes_of}
+use Rattle.launch_text.specs.Rules.{LoadedLaunch, IsLaunch, Parameter, BufferPointer, LocalPointer, PlainValue, Taken, KeepsRules}
+use Rattle.cl_common.specs.Types.{size_at, slots_at}
 use Rattle.cl_meaning.specs.Source.{Unit, kernel_from}
 
 -- where a scalar lies, and its bits
@@ -25,6 +26,10 @@ parameter_in cs t s = PlainValue (size_at cs t)
 
 abbrev pub parameter_of : List ClType → Variable → Parameter
 parameter_of cs v = parameter_in cs v.ty (shape_of cs v.ty)
+
+abbrev pub required_by : Option (List ℕ) → List Sizes
+required_by None = []
+required_by (Some sizes) = sizes_of sizes ∷ []
 
 abbrev pub taken_by : List ClType → Option Function → Option Taken
 taken_by cs None = None

@@ -9,5 +9,14 @@ pub mod Effects
 pub mod Items
 pub mod ItemRuns
 pub mod Source
-pub mod Fits
 pub mod Laws
+pub mod Fits
+pub mod Stacks
+pub mod Slots
+pub mod Views
+pub mod Initialisers
+pub mod Places
+pub mod Running
+pub mod Placing
+pub mod Controls
+pub mod Endings

@@ -2,49 +2,14 @@
 use Rattle.std.specs.Prelude.{ℕ, ◌*◌, ◌%◌, ◌^◌, nat_lt, false, if◌then◌else◌, List, [], ◌∷◌, map, length, reverse, take, drop, get_or, Option, Some, None, unwrap_or, slice_index, pos, ◌-ℤ◌, int_div}
 use Rattle.clv_num.specs.Numbers.{pattern_of}
 use Rattle.cl_types.specs.declared.types.ClType.{ClType}
-use Rattle.cl_types.specs.declared.types.TypeId.{TypeId}
-use Rattle.cl_types.specs.declared.operator.UnOp.{UnOp}
 use Rattle.cl_types.specs.declared.operator.BinOp.{BinOp}
 use Rattle.cl_types.specs.declared.operator.BinOp.TheVariants as bin
-use Rattle.cl_types.specs.declared.builtin.Builtin.{Builtin}
-use Rattle.cl_builtins.specs.declared.kind.Gentype.{Gentype}
 use Rattle.cl_tree.specs.declared.shape.Shape.{Shape}
-use Rattle.cl_tree.specs.Constants.{component_of, unaries_of, convert_to, joined, repeated}
+use Rattle.cl_tree.specs.Constants.{number_by, unaries_of, convert_to, joined, repeated}
 use Rattle.cl_common.specs.Operators.{each_from, given, filled, applied}
+pub use Rattle.cl_meaning.specs.declared.operation.Operation.{Operation}
+pub use Rattle.cl_meaning.specs.declared.operation.Operation.TheVariants.{Push, Drop, DropSecond, Swap, Keep, Sure, Follow, Address, Part, Select, Offset, Compare, Elements, Convert, Unary, Slice, Components, Element, Vector, Fill, Apply}
 use Rattle.cl_meaning.specs.Values.{Scalar, Pattern, Points, patterns_in, patterns, Entry, Value, Missing, Place, Pointer, Amount, Forth, Back, opposite, amount_in, moved, part_of, same_array}
-
--- An operation on the newest entries of a stack, the newest written last.
-pub data Operation : Type 0 where
-  -- put an entry there; take away the newest, or the one beneath it; exchange these two; put a copy of the newest beneath these two
-  Push : Entry → Operation
-  Drop : Operation
-  DropSecond : Operation
-  Swap : Operation
-  Keep : Operation
-  -- a value that is used may not be missing
-  Sure : Operation
-  -- a pointer: the place where it points; a place: a pointer there, a part of the `whole` bytes there, components of a vector there
-  Follow : Operation
-  Address : Operation
-  Part : (whole far bytes : ℕ) → Operation
-  Select : (at : List ℕ) → Operation
-  -- a pointer and a number of elements of `size` bytes: `+` or `-`; two pointers: a comparison or `-`
-  Offset : (op : BinOp) (index : Shape) (size : ℕ) → Operation
-  Compare : (op : BinOp) (size : ℕ) → Operation
-  -- of vloadN and vstoreN, a number k and a pointer: the place of n elements from the (k * n)th on; this product is a size_t and wraps
-  Elements : (n size : ℕ) → Operation
-  -- a value: converted; by `+`, `-`, `~` or `!`; so many scalars from one on; the components in this order
-  Convert : (from to : Shape) → Operation
-  Unary : (op : UnOp) (bits : ℕ) → Operation
-  Slice : (from count : ℕ) → Operation
-  Components : (at : List ℕ) → Operation
-  -- an array's value, of `len` elements of so many scalars, and an index
-  Element : (index : Shape) (count len : ℕ) → Operation
-  -- so many values: a vector literal; an initialiser list; the arguments of a built-in function that depends on these alone, the first of which
-  -- has the components `from`, and the result `to`
-  Vector : (parts count : ℕ) → Operation
-  Fill : (types : List TypeId) (ty : TypeId) → Operation
-  Apply : (function : Builtin) (args : ℕ) (from to : Gentype) → Operation
 
 -- the values of the n newest entries, the newest last
 abbrev pub scalars_in : Entry → List Scalar
@@ -68,7 +33,7 @@ directed op n = n
 -- the distance in elements, an int; of a comparison 1 or 0
 abbrev pub compared : BinOp → ℕ → Pointer → Pointer → ℕ
 compared bin.Sub size p q = pattern_of 32 (int_div (pos p.offset -ℤ pos q.offset) (pos size))
-compared op size p q = unwrap_or (component_of op 64 false 1 p.offset q.offset) 0
+compared op size p q = unwrap_or (number_by op (record { bits = 64; signed = false; count = 1 }) p.offset q.offset) 0
 
 abbrev pub and_pointer : List Entry → Option Pointer → Option (List Entry)
 and_pointer st None = None
@@ -115,7 +80,7 @@ operated cs (Offset op index size) (Value (Pattern i ∷ []) ∷ Value (Points p
 operated cs (Compare op size) (Value (Points q ∷ []) ∷ Value (Points p ∷ []) ∷ st) = if same_array p q then Some (Value (Pattern (compared op size p q) ∷ []) ∷ st) else None
 operated cs (Elements n size) (Value (Points p ∷ []) ∷ Value (Pattern k ∷ []) ∷ st) = and_place st (Some (each_from (λ i. i) 0 n)) (moved (Forth ((k * n) % 2 ^ 32)) size p)
 operated cs (Convert from to) (Value v ∷ st) = Some (Value (converted from to v) ∷ st)
-operated cs (Unary op bits) (Value v ∷ st) = Some (Value (patterns (unaries_of op bits (patterns_in v))) ∷ st)
+operated cs (Unary op operand) (Value v ∷ st) = Some (Value (patterns (unaries_of op operand.bits (patterns_in v))) ∷ st)
 operated cs (Slice from count) (Value v ∷ st) = Some (Value (take count (drop from v)) ∷ st)
 operated cs (Components at) (Value v ∷ st) = Some (Value (components at v) ∷ st)
 operated cs (Element index count len) (Value (Pattern i ∷ []) ∷ Value v ∷ st) = and_value st (element count len v (amount_in index i))

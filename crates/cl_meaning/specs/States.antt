@@ -8,8 +8,10 @@ use Rattle.cl_meaning.specs.Code.{Code}
 use Rattle.cl_tree.specs.declared.event.NodeId.{NodeId}
 use Rattle.cl_common.specs.Bytes.{Bytes, no_bytes, with_number}
 use Rattle.cl_common.specs.Events.{same_nodes}
-use Rattle.cl_meaning.specs.Values.{Name, same_name, Pointer, Scalar, Points, patterns_in, Entry, slots_at}
+use Rattle.cl_common.specs.Types.{slots_at}
+use Rattle.cl_meaning.specs.Values.{Name, same_name, Pointer, Scalar, Points, patterns_in, Entry}
 use Rattle.cl_meaning.specs.Tasks.{Task}
+pub use Rattle.cl_meaning.specs.declared.item.Frame.{Frame}
 
 -- ---- states
 
@@ -24,11 +26,6 @@ pub record Surroundings : Type 0 where
 pub record Memory : Type 0 where
   pub bytes : Name → Bytes
   pub pointers : Name → Option Pointer
-
--- the function that runs, and the nodes of the calls that lead there, the innermost first
-pub record Frame : Type 0 where
-  pub function : ℕ
-  pub calls : List NodeId
 
 -- A loop or a switch of this call: what is done after `break`; of a loop also what is done after `continue`.
 pub data Around : Type 0 where

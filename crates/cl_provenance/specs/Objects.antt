@@ -8,8 +8,9 @@ use Rattle.cl_types.specs.declared.operator.UnOp.TheVariants as un
 use Rattle.cl_tree.specs.declared.unit.Variable.{Variable}
 use Rattle.cl_tree.specs.Shapes.{shape_of, is_pointer, is_array}
 use Rattle.cl_tree.specs.Statements.{is_local}
-use Rattle.cl_meaning.specs.Code.{Node, Expr, Exprs, Tree, NoExpr, AndExpr}
-use Rattle.cl_meaning.specs.Code as code
+use Rattle.cl_meaning.specs.declared.code.Node.{Node}
+use Rattle.cl_meaning.specs.Code.{Expr, Exprs, Tree, NoExpr, AndExpr}
+use Rattle.cl_meaning.specs.declared.code.Node.TheVariants as kind
 use Rattle.obj_tree.specs.declared.object.Mark.{Mark}
 use Rattle.obj_tree.specs.declared.object.Mark.TheVariants.{Member, Index, Single}
 use Rattle.obj_tree.specs.declared.object.Root.{Root}
@@ -90,8 +91,8 @@ last_in (o ∷ []) = o
 last_in (o ∷ p ∷ os) = last_in (p ∷ os)
 
 abbrev pub is_element : Node → Bool
-is_element (code.Unary un.Deref) = true
-is_element code.Index = true
+is_element (kind.Unary un.Deref) = true
+is_element kind.Index = true
 is_element _ = false
 
 module _ (cs : List ClType) where
@@ -138,13 +139,13 @@ module _ (cs : List ClType) where
       element a = if is_elements a.ty then step_by Index a.lies else a.points
 
       abbrev pub lies_at : Node → List Operand → Option Where
-      lies_at (code.Param k) os = Some (whole (parameter k))
-      lies_at (code.Var k) os = Some (whole (variable k))
-      lies_at (code.Local k) os = Some (whole (Local k))
-      lies_at (code.Constant k) os = Some (whole (Constant k))
-      lies_at (code.Unary un.Deref) (a ∷ os) = element a
-      lies_at code.Index (a ∷ os) = element a
-      lies_at (code.Member k) (a ∷ os) = step_by (Member k) a.lies
+      lies_at (kind.Param k) os = Some (whole (parameter k))
+      lies_at (kind.Var k) os = Some (whole (variable k))
+      lies_at (kind.Local k) os = Some (whole (Local k))
+      lies_at (kind.Constant k) os = Some (whole (Constant k))
+      lies_at (kind.Unary un.Deref) (a ∷ os) = element a
+      lies_at kind.Index (a ∷ os) = element a
+      lies_at (kind.Member k) (a ∷ os) = step_by (Member k) a.lies
       lies_at _ os = None
 
       -- Where a pointer points. A variable has what it was given. An array's name points to its elements, and `&` to an element or to a single object;
@@ -153,16 +154,16 @@ module _ (cs : List ClType) where
       addressed a = if a.is_element then a.lies else step_by Single a.lies
 
       abbrev pub points_at : Node → List Operand → Option Where
-      points_at (code.Param k) os = given (Parameter k)
-      points_at (code.Var k) os = given (Declared k)
-      points_at code.Convert os = if is_elements (first_in os).ty then step_by Index (first_in os).lies else (first_in os).points
-      points_at (code.Unary un.Address) os = addressed (first_in os)
-      points_at (code.Unary op) os = (first_in os).points
-      points_at (code.Binary op) os = first_of (first_in os).points (second_in os).points
-      points_at (code.Assign op) os = (first_in os).points
-      points_at code.Cond os = (second_in os).points
-      points_at code.Comma os = (last_in os).points
-      points_at code.Fill os = (last_in os).points
+      points_at (kind.Param k) os = given (Parameter k)
+      points_at (kind.Var k) os = given (Declared k)
+      points_at kind.Convert os = if is_elements (first_in os).ty then step_by Index (first_in os).lies else (first_in os).points
+      points_at (kind.Unary un.Address) os = addressed (first_in os)
+      points_at (kind.Unary op) os = (first_in os).points
+      points_at (kind.Binary op) os = first_of (first_in os).points (second_in os).points
+      points_at (kind.Assign op) os = (first_in os).points
+      points_at kind.Cond os = (second_in os).points
+      points_at kind.Comma os = (last_in os).points
+      points_at kind.Fill os = (last_in os).points
       points_at _ os = None
 
       abbrev pub operand_in : Node → TypeId → List Operand → Operand
@@ -190,8 +191,8 @@ module _ (cs : List ClType) where
 
     -- A place that gives: `p = q` gives p, and so does the name of a variable that is declared with an initialiser. It gives where q points.
     abbrev pub gives : Point → Option (Pointer × Expr)
-    gives (At (Tree (code.Assign None) ty n (AndExpr (Tree (code.Param k) u m os) (AndExpr q es)))) = if is_pointed ty then Some (Parameter k, q) else None
-    gives (At (Tree (code.Assign None) ty n (AndExpr (Tree (code.Var k) u m os) (AndExpr q es)))) = if is_pointed ty then Some (Declared k, q) else None
+    gives (At (Tree (kind.Assign None) ty n (AndExpr (Tree (kind.Param k) u m os) (AndExpr q es)))) = if is_pointed ty then Some (Parameter k, q) else None
+    gives (At (Tree (kind.Assign None) ty n (AndExpr (Tree (kind.Var k) u m os) (AndExpr q es)))) = if is_pointed ty then Some (Declared k, q) else None
     gives (At q) = None
     gives (Left q) = None
     gives (Name k q) = if is_pointed (type_of q) then Some (Declared k, q) else None

@@ -8,7 +8,7 @@ use Rattle.cl_tree.specs.declared.shape.Shape.{Shape}
 use Rattle.cl_tree.specs.declared.shape.Shape.TheVariants as shape
 use Rattle.cl_tree.specs.Shapes.{shape_of, same_type, is_pointer}
 use Rattle.cl_meaning.specs.Code.{Expr, Exprs, Tree, NoExpr, AndExpr}
-use Rattle.cl_meaning.specs.Code as code
+use Rattle.cl_meaning.specs.declared.code.Node.TheVariants as kind
 use Rattle.obj_tree.specs.declared.object.Mark.{Mark}
 use Rattle.obj_tree.specs.declared.object.Mark.TheVariants.{Member, Index, Single}
 use Rattle.obj_tree.specs.declared.object.Root.{Root}
@@ -89,11 +89,11 @@ module _ (cs : List ClType) (f : Routine) (e : Entered) where
 
   -- What a node breaks, behind these points.
   abbrev pub node_breaks : List Point → Expr → Option ℕ
-  node_breaks before (Tree (code.Var k) ty n es) = if points ty then unless (is_given_by (Declared k) before) 403 else None
-  node_breaks before (Tree code.Convert ty n (AndExpr a es)) = if points ty then casts cs (pointee (shape_of cs (type_of a))) (pointee (shape_of cs ty)) else None
-  node_breaks before (Tree (code.Binary op) ty n (AndExpr a (AndExpr b es))) = disagree (where_is a) (where_is b)
-  node_breaks before (Tree (code.Assign None) ty n (AndExpr a (AndExpr b es))) = disagree (where_is a) (where_is b)
-  node_breaks before (Tree code.Cond ty n (AndExpr test (AndExpr a (AndExpr b es)))) = disagree (where_is a) (where_is b)
+  node_breaks before (Tree (kind.Var k) ty n es) = if points ty then unless (is_given_by (Declared k) before) 403 else None
+  node_breaks before (Tree kind.Convert ty n (AndExpr a es)) = if points ty then casts cs (pointee (shape_of cs (type_of a))) (pointee (shape_of cs ty)) else None
+  node_breaks before (Tree (kind.Binary op) ty n (AndExpr a (AndExpr b es))) = disagree (where_is a) (where_is b)
+  node_breaks before (Tree (kind.Assign None) ty n (AndExpr a (AndExpr b es))) = disagree (where_is a) (where_is b)
+  node_breaks before (Tree kind.Cond ty n (AndExpr test (AndExpr a (AndExpr b es)))) = disagree (where_is a) (where_is b)
   node_breaks before _ = None
 
   abbrev pub breaks : List Point → Point → Option ℕ

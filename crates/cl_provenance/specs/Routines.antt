@@ -16,6 +16,7 @@ use Rattle.cl_tree.specs.declared.unit.Function.{Function}
 use Rattle.cl_tree.specs.declared.unit.Variable.{Variable}
 use Rattle.cl_tree.specs.Shapes.{shape_of, is_pointer}
 use Rattle.cl_meaning.specs.Code.{Expr, Exprs, Tree, NoExpr, AndExpr, Stmt, Stmts, NoStmt, AndStmt, Sections, NoSection, AndSection, numbered, body_of}
+use Rattle.cl_meaning.specs.declared.code.Node.TheVariants as kind
 use Rattle.cl_meaning.specs.Code as code
 
 -- ---- the expressions of a text
@@ -165,7 +166,7 @@ module _ (cs : List ClType) where
 
   abbrev mutual
     pub in_expr : Expr → List Point
-    in_expr (Tree (code.Assign None) ty n (AndExpr a es)) = (if points ty then Left a ∷ [] else in_expr a) ++ (in_exprs es ++ At (Tree (code.Assign None) ty n (AndExpr a es)) ∷ [])
+    in_expr (Tree (kind.Assign None) ty n (AndExpr a es)) = (if points ty then Left a ∷ [] else in_expr a) ++ (in_exprs es ++ At (Tree (kind.Assign None) ty n (AndExpr a es)) ∷ [])
     in_expr (Tree node ty n es) = in_exprs es ++ At (Tree node ty n es) ∷ []
 
     pub in_exprs : Exprs → List Point
@@ -245,7 +246,7 @@ pub record CallSite : Type 0 where
   pub arguments : Exprs
 
 abbrev pub call_at : Point → List CallSite
-call_at (At (Tree (code.Call f) ty n es)) = record { node = n; function = f; arguments = es } ∷ []
+call_at (At (Tree (kind.Call f) ty n es)) = record { node = n; function = f; arguments = es } ∷ []
 call_at _ = []
 
 abbrev pub calls_among : List Point → List CallSite

@@ -11,7 +11,9 @@ use Rattle.cl_types.specs.declared.operator.UnOp.TheVariants as un
 use Rattle.cl_types.specs.declared.operator.BinOp.TheVariants as bin
 use Rattle.cl_tree.specs.declared.unit.ConstantVar.{ConstantVar}
 use Rattle.cl_tree.specs.declared.unit.Variable.{Variable}
-use Rattle.cl_meaning.specs.Code.{Node, Param, Var, Number, Unary, Binary, Assign, Call, Index, Expr, Tree, NoExpr, AndExpr, Stmt, Stmts, Block, Declare, Initialise, Evaluate, Return, NoStmt, AndStmt}
+use Rattle.cl_meaning.specs.declared.code.Node.{Node}
+use Rattle.cl_meaning.specs.declared.code.Node.TheVariants.{Param, Var, Number, Unary, Binary, Assign, Call, Index}
+use Rattle.cl_meaning.specs.Code.{Expr, Tree, NoExpr, AndExpr, Stmt, Stmts, Block, Declare, Initialise, Evaluate, Return, NoStmt, AndStmt}
 use Rattle.cl_provenance.specs.Routines.{Routine, Unit as Functions}
 use Rattle.obj_tree.specs.declared.object.Mark.{Mark}
 use Rattle.obj_tree.specs.declared.object.Mark.TheVariants as mark

@@ -5,7 +5,7 @@ use Rattle.clv_place.specs.declared.stop.Offence.{Offence}
 use Rattle.cl_types.specs.declared.types.ClType.{ClType}
 use Rattle.cl_tree.specs.declared.unit.Variable.{Variable}
 use Rattle.cl_tree.specs.Statements.{is_local}
-use Rattle.cl_meaning.specs.Values.{size_at}
+use Rattle.cl_common.specs.Types.{size_at}
 use Rattle.cl_provenance.specs.Routines.{Routine, Unit as Functions, node_place, no_place}
 use Rattle.cl_provenance.specs.Objects.{first_of}
 use Rattle.cl_provenance.specs.Offences.{pointer_offence, recursion}

@@ -4,23 +4,24 @@ use Rattle.cl_types.specs.declared.types.ClType.{ClType}
 use Rattle.cl_types.specs.declared.types.TypeId.{TypeId}
 use Rattle.cl_types.specs.declared.operator.UnOp.TheVariants as un
 use Rattle.cl_tree.specs.Shapes.{shape_of, is_pointer, is_array}
-use Rattle.cl_meaning.specs.Code.{Node, Expr, Exprs, Tree, NoExpr, AndExpr}
-use Rattle.cl_meaning.specs.Code as code
-use Rattle.cl_meaning.specs.Values.{count_at}
+use Rattle.cl_meaning.specs.declared.code.Node.{Node}
+use Rattle.cl_meaning.specs.Code.{Expr, Exprs, Tree, NoExpr, AndExpr}
+use Rattle.cl_meaning.specs.declared.code.Node.TheVariants as kind
+use Rattle.cl_common.specs.Types.{count_at}
 use Rattle.cl_provenance.specs.Routines.{Routine, type_of}
 
 module _ (cs : List ClType) where
   -- a place (an lvalue: C99, 6.3.2.1)
   abbrev mutual
     pub is_place : Expr → Bool
-    is_place (Tree (code.Param k) ty n es) = true
-    is_place (Tree (code.Var k) ty n es) = true
-    is_place (Tree (code.Local k) ty n es) = true
-    is_place (Tree (code.Constant k) ty n es) = true
-    is_place (Tree (code.Unary un.Deref) ty n es) = is_element es
-    is_place (Tree code.Index ty n es) = is_element es
-    is_place (Tree (code.Member k) ty n es) = is_first_place es
-    is_place (Tree (code.Components at) ty n es) = is_first_place es
+    is_place (Tree (kind.Param k) ty n es) = true
+    is_place (Tree (kind.Var k) ty n es) = true
+    is_place (Tree (kind.Local k) ty n es) = true
+    is_place (Tree (kind.Constant k) ty n es) = true
+    is_place (Tree (kind.Unary un.Deref) ty n es) = is_element es
+    is_place (Tree kind.Index ty n es) = is_element es
+    is_place (Tree (kind.Member k) ty n es) = is_first_place es
+    is_place (Tree (kind.Components at) ty n es) = is_first_place es
     is_place _ = false
 
     pub is_element : Exprs → Bool
@@ -33,10 +34,10 @@ module _ (cs : List ClType) where
 
   -- of `.`, `->`, `[]` and `&` the operand may be a place, of which nothing is read
   abbrev pub takes_place : Node → Bool
-  takes_place (code.Unary un.Address) = true
-  takes_place code.Index = true
-  takes_place (code.Member k) = true
-  takes_place (code.Components at) = true
+  takes_place (kind.Unary un.Address) = true
+  takes_place kind.Index = true
+  takes_place (kind.Member k) = true
+  takes_place (kind.Components at) = true
   takes_place _ = false
 
   abbrev pub scalars_in : Exprs → ℕ
@@ -45,13 +46,13 @@ module _ (cs : List ClType) where
 
   -- a call passes the scalars of its arguments
   abbrev pub passed : Node → Exprs → ℕ
-  passed (code.Call f) es = scalars_in es
-  passed (code.Builtin b) es = scalars_in es
+  passed (kind.Call f) es = scalars_in es
+  passed (kind.Builtin b) es = scalars_in es
   passed _ es = 0
 
   -- an initialiser list makes the scalars of what it fills; any other node those of its type, or one where that is void, an array, or such a place
   abbrev pub made : Bool → Node → TypeId → ℕ
-  made is_named code.Fill ty = count_at cs ty
+  made is_named kind.Fill ty = count_at cs ty
   made is_named node ty = if is_named || is_array (shape_of cs ty) then 1 else max 1 (count_at cs ty)
 
   abbrev mutual

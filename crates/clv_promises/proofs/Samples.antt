@@ -12,7 +12,9 @@ use Rattle.cl_types.specs.declared.operator.UnOp.TheVariants as un
 use Rattle.cl_types.specs.declared.operator.BinOp.TheVariants as bin
 use Rattle.cl_tree.specs.declared.unit.ConstantVar.{ConstantVar}
 use Rattle.cl_tree.specs.declared.unit.Variable.{Variable}
-use Rattle.cl_meaning.specs.Code.{Node, Param, Var, Number, Convert, Unary, Binary, Call, Expr, Tree, NoExpr, AndExpr, Stmt, Stmts, Block, Declare, Evaluate, Return, Empty, NoStmt, AndStmt}
+use Rattle.cl_meaning.specs.declared.code.Node.{Node}
+use Rattle.cl_meaning.specs.declared.code.Node.TheVariants.{Param, Var, Number, Convert, Unary, Binary, Call}
+use Rattle.cl_meaning.specs.Code.{Expr, Tree, NoExpr, AndExpr, Stmt, Stmts, Block, Declare, Evaluate, Return, Empty, NoStmt, AndStmt}
 use Rattle.cl_provenance.specs.Routines.{Routine, Unit as Functions}
 use Rattle.spv_module.specs.declared.module.Inst.{Inst}
 use Rattle.spv_module.specs.declared.module.Operand.{Operand}

@@ -13,7 +13,9 @@ use Rattle.launch_text.specs.declared.launch.ArgKind.TheVariants.{Buffer}
 use Rattle.launch_text.specs.WorkItems.{Sizes}
 use Rattle.launch_text.specs.Rules.{LoadedLaunch}
 use Rattle.launch_text.specs.Seen.{launch_seen}
-use Rattle.cl_meaning.specs.Code.{Node, Param, Number, Convert, Binary, Assign, Builtin, Index, Expr, Tree, NoExpr, AndExpr, Stmt, Block, Evaluate, NoStmt, AndStmt}
+use Rattle.cl_meaning.specs.declared.code.Node.{Node}
+use Rattle.cl_meaning.specs.declared.code.Node.TheVariants.{Param, Number, Convert, Binary, Assign, Builtin, Index}
+use Rattle.cl_meaning.specs.Code.{Expr, Tree, NoExpr, AndExpr, Stmt, Block, Evaluate, NoStmt, AndStmt}
 use Rattle.cl_meaning.specs.States.{Surroundings}
 use Rattle.cl_meaning.specs.Items.{source_item, weight}
 use Rattle.cl_meaning.specs.Source.{first_item}

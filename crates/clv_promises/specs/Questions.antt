@@ -15,7 +15,7 @@ use Rattle.cl_tree.specs.declared.event.Event.TheVariants as event
 use Rattle.cl_tree.specs.declared.unit.Variable.{Variable}
 use Rattle.cl_tree.specs.Statements.{is_local}
 use Rattle.cl_common.specs.Events.{Asked, numbers_of}
-use Rattle.cl_meaning.specs.Values.{size_at, slots_at}
+use Rattle.cl_common.specs.Types.{size_at, slots_at}
 use Rattle.spv_module.specs.declared.op.TheConstants as op
 use Rattle.spv_types_rules.specs.Lines.{Whole}
 use Rattle.spv_invocations.specs.Events.{InBuffer, InGroup}

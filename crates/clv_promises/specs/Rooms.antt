@@ -5,7 +5,7 @@ use Rattle.std.specs.List.{list_any}
 use Rattle.cl_types.specs.declared.types.ClType.{ClType}
 use Rattle.cl_tree.specs.declared.unit.Variable.{Variable}
 use Rattle.cl_tree.specs.Statements.{is_local}
-use Rattle.cl_meaning.specs.Values.{count_at}
+use Rattle.cl_common.specs.Types.{count_at}
 use Rattle.spv_module.specs.declared.enumerant.storage_class.TheConstants as storage_class
 use Rattle.spv_types_rules.specs.Lines.{Line, Whole, first, id_of, names, below, function_of}
 use Rattle.cl_provenance.specs.Routines.{Routine, Unit as Functions}

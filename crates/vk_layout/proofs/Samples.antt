@@ -10,7 +10,9 @@ use Rattle.cl_types.specs.declared.space.Space.TheVariants as space
 use Rattle.cl_types.specs.declared.builtin.Builtin.TheVariants as builtin
 use Rattle.cl_tree.specs.declared.unit.ConstantVar.{ConstantVar}
 use Rattle.cl_tree.specs.declared.unit.Variable.{Variable}
-use Rattle.cl_meaning.specs.Code.{Node, Builtin, Expr, Tree, NoExpr, AndExpr, Stmt, Stmts, Block, Evaluate, NoStmt, AndStmt}
+use Rattle.cl_meaning.specs.declared.code.Node.{Node}
+use Rattle.cl_meaning.specs.declared.code.Node.TheVariants.{Builtin}
+use Rattle.cl_meaning.specs.Code.{Expr, Tree, NoExpr, AndExpr, Stmt, Stmts, Block, Evaluate, NoStmt, AndStmt}
 use Rattle.cl_provenance.specs.Routines.{Routine, Unit as Functions}
 use Rattle.spv_reflect.specs.declared.rows.ArgKindRow.{ArgKindRow}
 use Rattle.spv_reflect.specs.declared.rows.ArgKindRow.TheVariants as kind

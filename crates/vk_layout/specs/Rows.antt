@@ -13,7 +13,7 @@ use Rattle.cl_tree.specs.declared.unit.ConstantVar.{ConstantVar}
 use Rattle.cl_tree.specs.declared.unit.Variable.{Variable}
 use Rattle.cl_tree.specs.Shapes.{shape_of}
 use Rattle.cl_meaning.specs.Code.{Tree}
-use Rattle.cl_meaning.specs.Code as code
+use Rattle.cl_meaning.specs.declared.code.Node.TheVariants as node
 use Rattle.spv_reflect.specs.declared.rows.ArgKindRow.{ArgKindRow}
 use Rattle.spv_reflect.specs.declared.rows.ArgKindRow.TheVariants as kind
 use Rattle.spv_reflect.specs.declared.rows.ArgRow.{ArgRow}
@@ -158,7 +158,7 @@ sizes_row kernels = if all_required kernels then None else Some (0 ∷ 1 ∷ 2 �
 
 -- whether a function asks for the work dimension, where that isn't passed over
 abbrev pub asks_dimension : Point → Bool
-asks_dimension (At (Tree (code.Builtin builtin.GetWorkDim) ty n es)) = true
+asks_dimension (At (Tree (node.Builtin builtin.GetWorkDim) ty n es)) = true
 asks_dimension _ = false
 
 abbrev pub some_ask : List Point → Bool

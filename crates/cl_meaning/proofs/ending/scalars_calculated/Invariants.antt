@@ -1,0 +1,8 @@
+use Rattle.std.proofs.Common.{◌≡◌, ◌++◌}
+use Rattle.cl_common.specs.Operators.{each_from}
+use Rattle.cl_meaning.specs.Tasks.{Component}
+use Rattle.cl_meaning.specs.Views.{marked, tasks_by}
+use Rattle.cl_meaning.proofs.ending.scalars_calculated.Given as goal
+
+abbrev pub invariant-loop-k : goal.invariant-loop-k
+invariant-loop-k l = tasks_by l.out.items ≡ tasks_by l.initial.out.items ++ each_from (λ k. marked l.mark (Component l.op l.operands k)) 0 l.k
